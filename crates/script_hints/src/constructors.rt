@@ -2,9 +2,8 @@
 
 use crate::explainer::Explainer;
 use crate::faults::arguments_of;
-use crate::hint::{Fill, say};
-use crate::modules::{Text, token_of, tokens_of};
 use crate::names::distance;
+use hint_text::{Fill, Text, say, token_of, tokens_of};
 use std::alloc::Global;
 use strategy_syntax::Constructor;
 use strategy_tokens::Token;
@@ -57,18 +56,16 @@ impl Explainer<'_, '_, '_> {
     // Warns of the token of this number, with so many terms: there is a constructor of the same name, or
     // of a near one.
     fn warn_of_constructor(&mut self, number: usize, terms: u64, near: &Constructor, same: bool) {
-        if !self.hint.is_empty() {
-            say!(self; "\n");
-        }
-        let (token, _start, at) = self.token(number);
-        say!(self; "{}: warning: {}: {} ", self.source(), at, token);
-        let terms = Fill::Count(terms, "term");
+        self.begin_warning(None, number);
+        let (name, terms) = (
+            Fill::Quoted(near.name().bytes()),
+            Fill::Count(terms, "term"),
+        );
+        let declared = Fill::Number(near.arity() as u64);
         if same {
-            let declared = Fill::Number(near.arity() as u64);
-            say!(self; "has {}, and is declared with {}", terms, declared);
+            say!(self.hint; " has {}, and is declared with {}", terms, declared);
         } else {
-            let name = Fill::Quoted(near.name().bytes());
-            say!(self; "isn't declared; {} with {} is", name, terms);
+            say!(self.hint; " isn't declared; {} with {} is", name, terms);
         }
     }
 }
@@ -79,10 +76,7 @@ fn terms_of(tokens: &[Token]) -> u64 {
 }
 
 fn joins(byte: Option<&u8>) -> bool {
-    match byte {
-        Some(byte) => b"-+*$.'".contains(byte),
-        None => false,
-    }
+    byte.is_some_and(|byte| b"-+*$.'".contains(byte))
 }
 
 // Whether a constructor of this name with so many terms is among these tokens.
@@ -109,17 +103,14 @@ fn near_constructor<'m>(
     let mut near = None;
     for module in modules {
         for constructor in module.module.constructors() {
+            let is_same = constructor.name().equals(name);
             let has_terms = constructor.arity() as u64 == terms;
-            if !constructor.name().equals(name) {
-                if has_terms
-                    && near.is_none()
-                    && is_near(alloc, name.bytes(), constructor.name().bytes())?
-                {
-                    near = Some(constructor);
-                }
-            } else if has_terms {
+            let is_better = has_terms && near.is_none();
+            if is_same && has_terms {
                 return Ok(None);
-            } else {
+            } else if is_same
+                || (is_better && is_near(alloc, name.bytes(), constructor.name().bytes())?)
+            {
                 near = Some(constructor);
             }
         }

@@ -1,11 +1,11 @@
 //! What is said of a refused command.
 
-use crate::characters::{count_characters, place_of};
-use crate::command::{Parts, Seen, parts_of};
 use crate::faults::Fault;
-use crate::hint::{Fill, Hint, say};
-use crate::modules::{Text, read_modules, token_of};
-use session_history::{Refusal, Timeline};
+use hint_text::{
+    Fill, Hint, Parts, Seen, Text, count_characters, parts_of, place_of, read_modules, say,
+    token_of,
+};
+use session_history::{Limits, Refusal, Timeline};
 use std::alloc::Global;
 use term_core::NoMemory;
 
@@ -18,6 +18,8 @@ pub struct Explainer<'a, 'm, 't> {
     pub parts: Parts<'a>,
     /// The modules, in the order of their names, where the explanation needs them.
     pub modules: &'m [Text<'t>],
+    /// Those of the session.
+    pub limits: Limits,
 }
 
 /// One to four lines on why the command was refused, without a line feed at the end. The history is
@@ -37,9 +39,9 @@ pub fn explain<'a>(
         Refusal::Fails => read_modules(alloc, history, &names, &parts, false)?,
         _ => Vec::new(alloc),
     };
-    let mut explainer = Explainer::new(alloc, seen, &modules);
+    let mut explainer = Explainer::new(alloc, seen, &modules, history.limits());
     let explained = explainer.explain_refusal(history, refusal);
-    let said = explainer.into_text();
+    let said = explainer.hint.into_text();
     drop(modules);
     explained?;
     said
@@ -47,32 +49,32 @@ pub fn explain<'a>(
 
 impl<'a, 'm, 't> Explainer<'a, 'm, 't> {
     /// One that has said nothing yet.
-    pub fn new(alloc: Global, seen: &Seen<'a>, modules: &'m [Text<'t>]) -> Explainer<'a, 'm, 't> {
+    pub fn new(
+        alloc: Global,
+        seen: &Seen<'a>,
+        modules: &'m [Text<'t>],
+        limits: Limits,
+    ) -> Explainer<'a, 'm, 't> {
         Explainer {
             alloc,
             hint: Hint::new(alloc),
             seen: *seen,
             parts: parts_of(seen.text),
             modules,
+            limits,
         }
-    }
-
-    /// The whole text; `NoMemory` if a growth was refused.
-    pub fn into_text(self) -> Result<Vec<u8>, NoMemory> {
-        self.hint.into_text()
     }
 
     // `line 12: refused 10 syntax`; a fault of the checker follows with its name and numbers.
     fn say_refusal(&mut self, refusal: &Refusal) {
         let number = Fill::Number(u64::from(refusal.number()));
-        say!(self; "{}: refused {} ", self.source(), number);
-        let Refusal::Check(kind, name, strategies, terms) = refusal else {
+        say!(self.hint; "{}: refused {} ", self.source(), number);
+        if let Refusal::Check(kind, name, strategies, terms) = refusal {
+            let (kind, name) = (Fill::Words(kind.word()), Fill::Name(name));
+            say!(self.hint; "{} {} {} {}", kind, name, Fill::Number(*strategies), Fill::Number(*terms));
+        } else {
             self.hint.words(refusal.word());
-            return;
-        };
-        let numbers = (Fill::Number(*strategies), Fill::Number(*terms));
-        let kind = Fill::Words(kind.word());
-        say!(self; "{} {} {} {}", kind, Fill::Name(name), numbers.0, numbers.1);
+        }
     }
 
     fn explain_refusal(&mut self, history: &Timeline, refusal: &Refusal) -> Result<(), NoMemory> {
@@ -128,15 +130,9 @@ impl<'a, 'm, 't> Explainer<'a, 'm, 't> {
 
     /// Appends a sentence with that place in it, and shows the place.
     pub fn say_at(&mut self, sentence: &str, start: usize) {
-        say!(self; sentence, self.at(start));
+        say!(self.hint; sentence, self.at(start));
         self.show(start);
     }
-}
-
-/// A place of a text whose first line has this number.
-pub fn fill_of<'a>(text: &[u8], first: u64, at: usize) -> Fill<'a> {
-    let place = place_of(text, first, at);
-    Fill::At(place.line, count_characters(place.before).saturating_add(1))
 }
 
 // A place of the command, whose text is without the blanks before it and the comments within it.

@@ -1,41 +1,35 @@
 //! Limits that a command passes, and steps and groups that aren't there.
 
 use crate::explainer::Explainer;
-use crate::hint::{Fill, say};
-use crate::modules::token_of;
 use aterm_text::{MAX_NESTING, nesting, read, read_annotations};
+use hint_text::{Fill, say, token_of};
 use script_text::MAX_COMMAND;
-use session_history::{MAX_BUDGET, Refusal, Timeline};
+use session_history::{Refusal, Timeline};
 use strategy_tokens::{MAX_TOKENS, token_count};
-use term_core::{MAX_HEIGHT, MAX_SIZE, NoMemory, Term};
+use term_core::{MAX_HEIGHT, NoMemory, Term};
 use term_paths::read_number;
 
 impl Explainer<'_, '_, '_> {
     /// The refusals whose explanation takes no memory but for its text.
     pub fn explain_limit(&mut self, history: &Timeline, refusal: &Refusal) {
+        let group = self.seen.past.group;
+        let line = Fill::Line(group.unwrap_or(0));
         match refusal {
             Refusal::Name => self.explain_name(),
             Refusal::Deep => self.explain_deep(),
             Refusal::Long => {
                 let most = Fill::Number(MAX_COMMAND as u64);
-                say!(self; ": a command has at most {} bytes", most);
+                say!(self.hint; ": a command has at most {} bytes", most);
             }
             Refusal::Spent => self.explain_spent(),
             Refusal::NoUndo => self.explain_steps(history.past() as u64, "undo"),
             Refusal::NoRedo => self.explain_steps(history.later() as u64, "redo"),
-            Refusal::Group => {
-                say!(self; ": a group is open");
-                if let Some(line) = self.seen.past.group {
-                    say!(self; " since {}", Fill::Line(line));
-                }
-                say!(self; "; `commit` or `abandon` ends it");
-            }
-            Refusal::NoGroup => {
-                say!(self; ": no group is open; `begin` begins one");
-                if let Some(line) = self.seen.past.group {
-                    say!(self; ", and that of {} was ended", Fill::Line(line));
-                }
-            }
+            Refusal::Group if group.is_some() =>
+                say!(self.hint; ": a group is open since {}; `commit` or `abandon` ends it", line),
+            Refusal::Group => say!(self.hint; ": a group is open; `commit` or `abandon` ends it"),
+            Refusal::NoGroup if group.is_some() =>
+                say!(self.hint; ": no group is open; `begin` begins one, and that of {} was ended", line),
+            Refusal::NoGroup => say!(self.hint; ": no group is open; `begin` begins one"),
             _ => {}
         }
     }
@@ -45,31 +39,35 @@ impl Explainer<'_, '_, '_> {
             Some(budget) => budget as u64,
             None => u64::from(self.seen.budget),
         };
-        say!(self; ": the {} of the budget are used up", Fill::Count(budget, "step"));
-        say!(self; "\n    `within K` takes K up to {}", Fill::Number(u64::from(MAX_BUDGET)));
+        let (budget, most) = (
+            Fill::Count(budget, "step"),
+            Fill::Number(u64::from(self.limits.max_steps)),
+        );
+        say!(self.hint; ": the {} of the budget are used up\n    `within K` takes K up to {} (`--max-steps` raises that)", budget, most);
     }
 
     fn explain_steps(&mut self, steps: u64, word: &str) {
         let there = Fill::Words(if steps == 1 { "is" } else { "are" });
-        say!(self; ": there {} {} to {}", there, Fill::Count(steps, "step"), Fill::Words(word));
+        say!(self.hint; ": there {} {} to {}", there, Fill::Count(steps, "step"), Fill::Words(word));
     }
 
     // Refusal 8: how deep the term is, or how many tokens the text has.
     fn explain_deep(&mut self) {
-        let parts = self.parts;
-        let most = Fill::Number(MAX_TOKENS);
-        let count = Fill::Number(token_count(parts.text));
-        let start = if parts.is_module() {
-            say!(self; ": the module has {} tokens, and may have {}", count, most);
-            token_of(parts.text, MAX_TOKENS as usize).1
-        } else if parts.is_strategy() {
-            say!(self; ": the strategy has {} tokens, and may have {}", count, most);
-            token_of(parts.text, MAX_TOKENS as usize).1
+        let text = self.parts.text;
+        let (count, most, start) = if self.parts.is_module() || self.parts.is_strategy() {
+            let start = token_of(text, MAX_TOKENS as usize).1;
+            (token_count(text), MAX_TOKENS, start)
         } else {
-            let (open, most) = (Fill::Number(nesting(parts.text)), Fill::Number(MAX_NESTING));
-            say!(self; ": {} brackets are open at one place, and {} may be", open, most);
-            deep_place(parts.text)
+            (nesting(text), MAX_NESTING, deep_place(text))
         };
+        let sentence = if self.parts.is_module() {
+            ": the module has {} tokens, and may have {}"
+        } else if self.parts.is_strategy() {
+            ": the strategy has {} tokens, and may have {}"
+        } else {
+            ": {} brackets are open at one place, and {} may be"
+        };
+        say!(self.hint; sentence, Fill::Number(count), Fill::Number(most));
         self.say_at("; the first too many is at {}", start);
     }
 
@@ -81,9 +79,11 @@ impl Explainer<'_, '_, '_> {
                 self.say_first_big(level.saturating_add(1), &annotations);
             }
         } else if self.parts.is_strategy() {
-            let (size, height) = (Fill::Number(MAX_SIZE), Fill::Number(MAX_HEIGHT));
-            say!(self; ": a term that was built doesn't fit");
-            say!(self; "\n    a built term has at most {} terms in it, and a tree is at most {} high", size, height);
+            let (size, height) = (
+                Fill::Number(u64::from(self.limits.max_terms)),
+                Fill::Number(MAX_HEIGHT),
+            );
+            say!(self.hint; ": a term that was built doesn't fit\n    a built term has at most {} terms in it (`--max-terms` raises that), and a tree is at most {} high", size, height);
         } else if let Ok(term) = read(self.alloc, self.parts.text) {
             self.say_size(level, &term);
         }
@@ -91,25 +91,22 @@ impl Explainer<'_, '_, '_> {
     }
 
     fn say_first_big(&mut self, level: u64, annotations: &[Term]) {
-        for annotation in annotations {
-            if !annotation.fits(level) {
-                self.say_size(level, annotation);
-                return;
-            }
+        let room = self.limits.max_terms;
+        if let Some(annotation) = annotations.iter().find(|it| !it.fits(level, room)) {
+            self.say_size(level, annotation);
         }
     }
 
     fn say_size(&mut self, level: u64, term: &Term) {
-        let size = term.size();
-        if size > MAX_SIZE {
-            let (size, most) = (Fill::Number(size), Fill::Number(MAX_SIZE));
-            say!(self; ": the term has {} terms in it, and may have {}", size, most);
-            return;
-        }
-        let most = Fill::Number(MAX_HEIGHT.saturating_sub(level));
-        say!(self; ": the term is {} high, and may be {}", Fill::Number(term.height()), most);
-        if level > 0 {
-            say!(self; " below {}", Fill::Count(level, "term"));
+        let (size, height) = (term.size(), term.height());
+        let most = MAX_HEIGHT.saturating_sub(level);
+        let room = u64::from(self.limits.max_terms);
+        if size > room {
+            say!(self.hint; ": the term has {} terms in it, and may have {} (`--max-terms` raises that)", Fill::Number(size), Fill::Number(room));
+        } else if level == 0 {
+            say!(self.hint; ": the term is {} high, and may be {}", Fill::Number(height), Fill::Number(most));
+        } else {
+            say!(self.hint; ": the term is {} high, and may be {} below {}", Fill::Number(height), Fill::Number(most), Fill::Count(level, "term"));
         }
     }
 }

@@ -1,13 +1,11 @@
 //! Commands that have none of the forms.
 
-use crate::characters::begins_with_mark;
-use crate::command::{FORMS, has_word, split_word};
 use crate::explainer::Explainer;
-use crate::hint::{Fill, say};
-use crate::names::nearness;
+use crate::names::Near;
 use crate::texts::BEGINS_WITH_MARK;
+use hint_text::{FORMS, Fill, Parts, begins_with_mark, has_word, say, split_word};
 use script_text::{Framing, Keyword};
-use session_history::{MAX_BUDGET, MAX_STEPS};
+use session_history::MAX_STEPS;
 use std::alloc::Global;
 use term_core::NoMemory;
 use term_paths::read_number;
@@ -15,39 +13,55 @@ use term_paths::read_number;
 // The words that begin parts of a module, and the signs that modules and trees have, and words don't.
 const PARTS: &str = "signature sorts constructors rules strategies imports";
 
+const SIGNS: &[u8] = b"()[]{},:;=\"";
+
 // The words of other programs that show their commands, or end.
 const QUESTIONS: &str = "help ? quit exit bye q";
 
-const SIGNS: &[u8] = b"()[]{},:;=\"";
+const READ_AS_NAME: &str = "{} is read as the name of the tree";
+
+const NO_AT: &str = "`at` is missing before {}";
+
+const NO_SLASH: &str = "the path {} doesn't begin with `/`";
+
+const NO_NUMBER: &str = "{} is no number from 1 to {}";
 
 impl Explainer<'_, '_, '_> {
     /// Refusal 2: what is wrong with the command, and its form.
     pub fn explain_line(&mut self) -> Result<(), NoMemory> {
-        say!(self; ": ");
+        say!(self.hint; ": ");
         if self.parts.form.is_empty() {
             return self.explain_word();
         }
-        self.say_fault();
-        say!(self; "\n    the form is `{}`", Fill::Words(self.parts.form));
+        let (sentence, word, part) = fault_of(&self.parts);
+        let is_steps = matches!(self.parts.command, Keyword::Undo | Keyword::Redo);
+        let most = Fill::Number(u64::from(if is_steps {
+            MAX_STEPS
+        } else {
+            self.limits.max_steps
+        }));
+        let other = if part.is_empty() {
+            most
+        } else {
+            Fill::Quoted(part)
+        };
+        say!(self.hint; sentence, Fill::Quoted(word), other);
+        say!(self.hint; "\n    the form is `{}`", Fill::Words(self.parts.form));
         Ok(())
     }
 
     fn explain_word(&mut self) -> Result<(), NoMemory> {
         let word = self.parts.word;
+        let near = nearest_command(self.alloc, word)?;
         if begins_with_mark(word) {
-            say!(self; BEGINS_WITH_MARK);
+            say!(self.hint; BEGINS_WITH_MARK);
             return Ok(());
         }
-        say!(self; "there is no command {}", Fill::Quoted(word));
-        let near = nearest_command(self.alloc, word)?;
-        if !near.is_empty() {
-            say!(self; "; did you mean {}?", Fill::Quoted(near));
-        } else if let Some((before, line)) = self.seen.past.before
-            && self.goes_on()
-        {
-            self.say_continued(before, line);
-        } else {
-            self.say_commands();
+        say!(self.hint; "there is no command {}", Fill::Quoted(word));
+        match self.seen.past.before {
+            _ if !near.is_empty() => say!(self.hint; "; did you mean {}?", Fill::Quoted(near)),
+            Some((before, line)) if self.goes_on() => self.say_continued(before, line),
+            _ => self.say_commands(),
         }
         Ok(())
     }
@@ -57,153 +71,123 @@ impl Explainer<'_, '_, '_> {
     fn goes_on(&self) -> bool {
         let word = self.parts.word;
         let is_alone = self.parts.text.is_empty() && !has_word(QUESTIONS, word);
-        is_alone || has_word(PARTS, word) || has_sign(self.seen.text)
+        let is_sign = |byte: &u8| SIGNS.contains(byte);
+        is_alone || has_word(PARTS, word) || self.seen.text.iter().any(is_sign)
     }
 
     fn say_commands(&mut self) {
-        say!(self; "\n    the commands are");
+        say!(self.hint; "\n    the commands are");
         for form in FORMS.lines() {
-            say!(self; " {}", Fill::Bytes(split_word(form.as_bytes()).0));
+            say!(self.hint; " {}", Fill::Bytes(split_word(form.as_bytes()).0));
         }
     }
 
     // Says that the command before, of this word, ended.
     fn say_continued(&mut self, before: &str, line: u64) {
-        if self.seen.framing == Framing::Lines {
-            say!(self; "\n    with `--lines` and `-i` each line is a command");
-            return;
-        }
-        say!(self; "\n    every line of a command but the first begins with a blank");
-        say!(self; ": the `{}` of {} ended before this one", Fill::Words(before), Fill::Line(line));
-    }
-
-    // Says the first fault of a known form, in the order in which they are looked for.
-    fn say_fault(&mut self) {
-        let parts = self.parts;
-        if has_word(parts.form, b"N") && parts.name.is_empty() {
-            say!(self; "the name is missing");
-        } else if has_word(parts.form, b"C") && parts.copy.is_empty() {
-            say!(self; "the second name is missing");
-        } else if parts.is_strategy() && parts.keyword != b"do".as_slice() {
-            self.say_no_do();
-        } else if !parts.has_text() && !parts.text.is_empty() {
-            self.say_more();
-        } else {
-            self.say_operand_fault();
-        }
-    }
-
-    fn say_operand_fault(&mut self) {
-        let whole = self.parts.path.unwrap_or(b"/");
-        let (sentence, part) = path_fault(whole);
-        let is_steps = matches!(self.parts.command, Keyword::Undo | Keyword::Redo);
-        if sentence.is_empty() {
-            self.say_number_fault(if is_steps { MAX_STEPS } else { MAX_BUDGET });
-        } else {
-            say!(self; sentence, Fill::Quoted(whole), Fill::Quoted(part));
-        }
-    }
-
-    fn say_no_do(&mut self) {
-        let parts = self.parts;
-        let is_plain = parts.path.is_none() && parts.number.is_none();
-        if is_plain && has_word("at within do", parts.name) {
-            self.say_read_as_name();
-        } else if has_word("do", parts.number.unwrap_or(&[])) {
-            self.say_number_fault(MAX_BUDGET);
-        } else if has_word("do", parts.path.unwrap_or(&[])) {
-            say!(self; "the path `do` doesn't begin with `/`");
-        } else if is_plain && parts.keyword.starts_with(b"/") {
-            say!(self; "`at` is missing before {}", Fill::Quoted(parts.keyword));
-        } else {
-            self.say_before_do(parts.keyword);
-        }
-    }
-
-    fn say_before_do(&mut self, word: &[u8]) {
-        if word.is_empty() {
-            say!(self; "`do` and a strategy are missing");
-        } else if has_word("at", word) {
-            say!(self; "`at` comes before `within`, and at most once");
-        } else if has_word("within", word) {
-            say!(self; "`within` comes at most once");
-        } else {
-            say!(self; "`do` is missing before {}", Fill::Quoted(word));
-        }
-    }
-
-    fn say_more(&mut self) {
-        let parts = self.parts;
-        let word = split_word(parts.text).0;
-        if !has_word(parts.form, b"[at") || parts.path.is_some() {
-            say!(self; "nothing may follow, but there is {}", Fill::Quoted(word));
-        } else if has_word("at", parts.name) {
-            self.say_read_as_name();
-        } else if word.starts_with(b"/") {
-            say!(self; "`at` is missing before {}", Fill::Quoted(word));
-        } else {
-            say!(self; "only `at` and a path may follow, but there is {}", Fill::Quoted(word));
-        }
-    }
-
-    fn say_read_as_name(&mut self) {
-        say!(self; "{} is read as the name of the tree", Fill::Quoted(self.parts.name));
-    }
-
-    fn say_number_fault(&mut self, most: u32) {
-        let word = self.parts.number.unwrap_or(&[]);
-        if word.is_empty() {
-            say!(self; "the number is missing");
-            return;
-        }
-        let most = Fill::Number(u64::from(most));
-        say!(self; "{} is no number from 1 to {}", Fill::Quoted(word), most);
+        say!(self.hint; match self.seen.framing {
+            Framing::Lines => "\n    with `--lines` and `-i` each line is a command",
+            Framing::Continued => "\n    every line of a command but the first begins with a blank: the `{}` of {} ended before this one",
+        }, Fill::Words(before), Fill::Line(line));
     }
 }
 
-fn has_sign(text: &[u8]) -> bool {
-    for byte in text {
-        if SIGNS.contains(byte) {
-            return true;
-        }
+// The first fault of a known form, in the order in which they are looked for: a sentence, and the words
+// that it speaks of. In place of the second comes the greatest number, if it is empty.
+fn fault_of<'a>(parts: &Parts<'a>) -> (&'static str, &'a [u8], &'a [u8]) {
+    if has_word(parts.form, b"N") && parts.name.is_empty() {
+        ("the name is missing", &[], &[])
+    } else if has_word(parts.form, b"C") && parts.copy.is_empty() {
+        ("the second name is missing", &[], &[])
+    } else if parts.is_strategy() && !has_word("do", parts.keyword) {
+        fault_before_do(parts)
+    } else if !parts.has_text() && !parts.text.is_empty() {
+        fault_after_form(parts)
+    } else {
+        fault_of_operand(parts)
     }
-    false
 }
 
-// What is wrong with a path, and with which part of it; nothing if it is one.
-fn path_fault(path: &[u8]) -> (&'static str, &[u8]) {
-    if path.is_empty() {
-        return ("the path is missing", &[]);
+fn fault_before_do<'a>(parts: &Parts<'a>) -> (&'static str, &'a [u8], &'a [u8]) {
+    let (name, word) = (parts.name, parts.keyword);
+    let is_plain = parts.path.is_none() && parts.number.is_none();
+    let is_do = |word: Option<&[u8]>| has_word("do", word.unwrap_or(&[]));
+    if is_plain && has_word("at within do", name) {
+        (READ_AS_NAME, name, &[])
+    } else if is_do(parts.number) {
+        (NO_NUMBER, parts.number.unwrap_or(&[]), &[])
+    } else if is_do(parts.path) {
+        (NO_SLASH, parts.path.unwrap_or(&[]), &[])
+    } else if is_plain && word.starts_with(b"/") {
+        (NO_AT, word, &[])
+    } else if word.is_empty() {
+        ("`do` and a strategy are missing", &[], &[])
+    } else if has_word("at", word) {
+        ("`at` comes before `within`, and at most once", &[], &[])
+    } else if has_word("within", word) {
+        ("`within` comes at most once", &[], &[])
+    } else {
+        ("`do` is missing before {}", word, &[])
     }
+}
+
+fn fault_after_form<'a>(parts: &Parts<'a>) -> (&'static str, &'a [u8], &'a [u8]) {
+    let word = split_word(parts.text).0;
+    if !has_word(parts.form, b"[at") || parts.path.is_some() {
+        ("nothing may follow, but there is {}", word, &[])
+    } else if has_word("at", parts.name) {
+        (READ_AS_NAME, parts.name, &[])
+    } else if word.starts_with(b"/") {
+        (NO_AT, word, &[])
+    } else {
+        (
+            "only `at` and a path may follow, but there is {}",
+            word,
+            &[],
+        )
+    }
+}
+
+fn fault_of_operand<'a>(parts: &Parts<'a>) -> (&'static str, &'a [u8], &'a [u8]) {
+    let path = parts.path.unwrap_or(b"/");
     let Some(numbers) = path.strip_prefix(b"/") else {
-        return ("the path {} doesn't begin with `/`", &[]);
+        return (
+            if path.is_empty() {
+                "the path is missing"
+            } else {
+                NO_SLASH
+            },
+            path,
+            &[],
+        );
     };
     for part in numbers.split(|byte| *byte == b'/') {
         if part.is_empty() && !numbers.is_empty() {
-            return ("the path {} has no number after a `/`", &[]);
-        }
-        if !part.is_empty() && read_number(part).is_none() {
+            return ("the path {} has no number after a `/`", path, &[]);
+        } else if !part.is_empty() && read_number(part).is_none() {
             return (
                 "the path {} has {}, which is no number from 0 to 4294967295",
+                path,
                 part,
             );
         }
     }
-    ("", &[])
+    match parts.number {
+        Some([]) | None => ("the number is missing", &[], &[]),
+        Some(word) => (NO_NUMBER, word, &[]),
+    }
 }
 
 // The command whose word is nearest: at most one edit away, or two after the same letter. None if
 // there is no such command.
 fn nearest_command(alloc: Global, word: &[u8]) -> Result<&'static [u8], NoMemory> {
-    let mut nearest: &'static [u8] = &[];
-    let mut least = 3;
+    let mut nearest = Near::none();
     for form in FORMS.lines() {
+        let mut near = nearest;
         let name = split_word(form.as_bytes()).0;
-        let far = nearness(alloc, word, name)?.unwrap_or(least);
-        if far < least && (far < 2 || word.first() == name.first()) {
-            least = far;
-            nearest = name;
+        near.offer(alloc, word, name, (0, 0))?;
+        if near.far < 2 || word.first() == near.name.first() {
+            nearest = near;
         }
     }
-    Ok(nearest)
+    Ok(nearest.name)
 }

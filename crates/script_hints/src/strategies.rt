@@ -1,6 +1,6 @@
 //! The strategies that modules of `strategies/` define.
 
-use crate::command::has_word;
+use hint_text::has_word;
 
 // A line is a module, and names that it defines.
 const DEFINED: &str =

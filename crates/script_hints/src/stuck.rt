@@ -1,62 +1,68 @@
 //! A token with which a text doesn't go on, what is around it, and what to write in its place.
 
-use crate::command::{Parts, has_word, line_of};
-use crate::modules::{is_sign, token_of};
+use hint_text::{Fill, Hint, Parts, has_word, is_sign, say, split_word, token_of};
 use std::alloc::Global;
 use strategy_parse::{stuck_module, stuck_strategy};
-use strategy_tokens::{Keyword, Sign, Token, is_mark, is_word};
+use strategy_tokens::{Keyword, Sign, Token, is_mark};
 use term_core::NoMemory;
 use text_faults::{
     OpenForm, OpenToken, Role, innermost_open, roles_in_definition, roles_in_strategy,
 };
 
-// In these tables a line is a word, and what is said of it: of words that begin forms that aren't here,
-// of names in the place of a section's word, and of words after which a `(` has to come.
-const ABSENT: &str = "with there is no `with`: write `where`
-switch there is no `switch`: write `if .. then .. else .. end`, or `<+` between rules
-case there is no `switch`: write `if .. then .. else .. end`, or `<+` between rules
-let there is no `let`: write a definition of the module
-imports there is no `imports`: all loaded modules see one another
-overlays there are no overlays";
-
-const MEANT: &str = "signatures did you mean `signature`?
-Signature did you mean `signature`?
-rule did you mean `rules`?
-Rules did you mean `rules`?
-strategy did you mean `strategies`?
-Strategies did you mean `strategies`?
-constructor did you mean `constructors`?
-Constructors did you mean `constructors`?
-sort did you mean `sorts`?
-Sorts did you mean `sorts`?";
-
-const BRACKETS: &str = "not brackets are missing: write `not(s)`
-where brackets are missing: write `where(s)`
-test brackets are missing: write `test(s)`
-all brackets are missing: write `all(s)`
-one brackets are missing: write `one(s)`
-some brackets are missing: write `some(s)`";
+// What to write instead: of the lines whose words before ` -- ` are all among the facts on the token, the
+// first counts.
+const ADVICE: &str = "near=with -- there is no `with`: write `where`
+near=switch -- there is no `switch`: write `if .. then .. else .. end`, or `<+` between rules
+near=case -- there is no `switch`: write `if .. then .. else .. end`, or `<+` between rules
+near=let -- there is no `let`: write a definition of the module
+near=imports -- there is no `imports`: all loaded modules see one another
+near=overlays -- there are no overlays
+before=in has=let -- there is no `let`: write a definition of the module
+here=in has=let -- there is no `let`: write a definition of the module
+here=: next== -- there is no `x := s`: write `s => x`
+text=module begins=signatures -- did you mean `signature`?
+text=module begins=Signature -- did you mean `signature`?
+text=module begins=rule -- did you mean `rules`?
+text=module begins=Rules -- did you mean `rules`?
+text=module begins=strategy -- did you mean `strategies`?
+text=module begins=Strategies -- did you mean `strategies`?
+text=module begins=constructor -- did you mean `constructors`?
+text=module begins=Constructors -- did you mean `constructors`?
+text=module begins=sort -- did you mean `sorts`?
+text=module begins=Sorts -- did you mean `sorts`?
+kind=term role=strategy after=other -- a term is no strategy: write `?` before it to match it, `!` to build it
+kind=integer role=strategy after=other -- a term is no strategy: write `?` before it to match it, `!` to build it
+was=strategy kind-before=integer -- a term is no strategy: write `?` before it to match it, `!` to build it
+was=strategy before=not -- brackets are missing: write `not(s)`
+was=strategy before=where -- brackets are missing: write `where(s)`
+was=strategy before=test -- brackets are missing: write `test(s)`
+was=strategy before=all -- brackets are missing: write `all(s)`
+was=strategy before=one -- brackets are missing: write `one(s)`
+was=strategy before=some -- brackets are missing: write `some(s)`
+text=module item=bare -- after the name of a definition comes `=` or `:`
+text=module item=strategy -- after `:` comes a rule `l -> r`: define a strategy by `=`
+text=module item=new section=none kind=name header=whole -- a definition comes after `rules` or `strategies`
+text=module item=new ended=; -- no `;` ends a definition
+text=module item=new ended=<+ -- no `<+` ends a definition
+text=module item=new here=if body=-> -- the condition of a rule comes after `where`
+here=+ -- there is no `s + t` alone: write `s <+ t`, or `c < s + t`
+here=< role=pattern after=other side=-> -- there is no `<s> p` in a pattern: write a rule `.. -> y where <s> p => y`
+here=< role=pattern after=other -- there is no `<s> p` in a pattern: write `<s> p => x` before, and x in the pattern
+text=module here=; open=none after=operand -- no `;` ends a definition
+word=where last=where -- a rule and a closure have one `where` at most: join conditions by `;`
+word=where last== -- only a rule `l -> r where s` has a `where`; else write `where(s)`
+word=where last=none text=strategy -- only a rule `l -> r where s` has a `where`; else write `where(s)`
+here=sorts item=new -- the word begins a part of a `signature`
+here=constructors item=new -- the word begins a part of a `signature`
+here=rules next=( role=strategy -- there are no dynamic rules
+word=reserved text=module item=new header=whole -- the word is reserved, and is no name
+word=plain role=pattern after=other -- the word is reserved, and is no name
+word=reserved role=pattern after=other list=ends -- the word is reserved, and is no name
+word=reserved role=binding after=other list=ends -- the word is reserved, and is no name
+word=reserved role=binding after=other before=rec -- the word is reserved, and is no name
+word=section role=strategy after=other list=ends -- the word is reserved, and is no name";
 
 const SECTIONS: &str = "module signature sorts constructors rules strategies";
-
-const ONLY_RULE: &str = "only a rule `l -> r where s` has a `where`; else write `where(s)`";
-
-const NO_SEMICOLON: &str = "no `;` ends a definition";
-
-const NO_TERM: &str = "a term is no strategy: write `?` before it to match it, `!` to build it";
-
-// What a line of a table says of a word; nothing if no line begins with it.
-fn said_of(table: &'static str, word: &[u8]) -> &'static str {
-    match line_of(table, word).split_once(' ') {
-        Some((_word, said)) => said,
-        None => "",
-    }
-}
-
-/// What to write in place of the form that this name begins; nothing if it begins none.
-pub fn instead_of(name: &[u8]) -> &'static str {
-    said_of(ABSENT, name)
-}
 
 /// What is around the token.
 #[derive(Clone, Copy)]
@@ -71,14 +77,13 @@ pub struct Stuck<'a> {
     // go on, or to the strategy.
     before: &'a [Token],
     item: &'a [Token],
-    // Whether the text is a module, and the word of the section that goes on before these.
-    is_module: bool,
-    section: Option<&'a Token>,
-    // What it is used for, in a definition or a strategy, and the token before it.
-    role: Option<Role>,
-    role_before: Option<Role>,
-    // The whole text.
+    // The whole text, whether it is a module, and the word of the section that goes on before the item.
     text: &'a [u8],
+    is_module: bool,
+    section: &'static str,
+    // What it is used for, in a definition or a strategy, and the token before it.
+    role: &'static str,
+    role_before: &'static str,
 }
 
 /// Where the text of the command, which has these tokens, stops being a module or a strategy.
@@ -90,70 +95,184 @@ pub fn stuck_of<'a>(
     let (begin, number) = stuck_token(alloc, parts, tokens.len())?;
     let (before, after) = tokens.split_at(number.min(tokens.len()));
     let (front, item) = before.split_at(begin.min(before.len()));
-    let is_module = parts.is_module();
-    let section = last_section(front);
+    let section = last_of(front, "signature rules strategies");
     let with_token = tokens.get(begin..number.saturating_add(1)).unwrap_or(item);
     let open = innermost_open(alloc, before)?;
-    let roles = if !is_module {
+    let roles = if !parts.is_module() {
         roles_in_strategy(alloc, with_token)?
-    } else if has_definitions(section) {
+    } else if has_word("rules strategies", section.as_bytes()) {
         roles_in_definition(alloc, with_token)?
     } else {
         Vec::new(alloc)
     };
-    let role = roles.get(item.len()).copied();
-    let role_before = match item.len().checked_sub(1) {
-        Some(last) => roles.get(last).copied(),
-        None => None,
-    };
-    drop(roles);
     Ok(Stuck {
         number,
         after,
         open,
         before,
         item,
-        is_module,
-        section,
-        role,
-        role_before,
         text: parts.text,
+        is_module: parts.is_module(),
+        section,
+        role: role_word(roles.get(item.len())),
+        role_before: role_word(item.len().checked_sub(1).and_then(|last| roles.get(last))),
     })
 }
 
-// The number of the token that begins the item, and of the one with which it can't go on; that of
-// all tokens if it ends too early.
+// The number of the token that begins the item, and of the one with which it can't go on; that of all
+// tokens if it ends too early.
 fn stuck_token(alloc: Global, parts: &Parts<'_>, all: usize) -> Result<(usize, usize), NoMemory> {
-    if parts.is_module() {
-        return match stuck_module(alloc, parts.text) {
-            Ok(Some(stuck)) => Ok((stuck.item, stuck.token)),
-            Ok(None) => Ok((all, all)),
-            Err(_) => Err(NoMemory),
-        };
-    }
-    match stuck_strategy(alloc, parts.text) {
-        Ok(Some(stuck)) => Ok((0, stuck.token)),
+    let found = if parts.is_module() {
+        stuck_module(alloc, parts.text).map(|found| found.map(|it| (it.item, it.token)))
+    } else {
+        stuck_strategy(alloc, parts.text).map(|found| found.map(|it| (0, it.token)))
+    };
+    match found {
+        Ok(Some(place)) => Ok(place),
+        Ok(None) if parts.is_module() => Ok((all, all)),
         Ok(None) => Ok((0, all)),
         Err(_) => Err(NoMemory),
     }
 }
 
-// The last word that begins a section.
-fn last_section(tokens: &[Token]) -> Option<&Token> {
-    let mut section = None;
-    for token in tokens {
-        if is_word(token, Keyword::Signature) || has_definitions(Some(token)) {
-            section = Some(token);
-        }
-    }
-    section
+/// What to write in place of the form that this name begins; nothing if it begins none.
+pub fn instead_of(alloc: Global, name: &[u8]) -> Result<&'static str, NoMemory> {
+    let mut facts = Hint::new(alloc);
+    say!(facts; "near={}", Fill::Bytes(name));
+    Ok(advice_on(&facts.into_text()?))
 }
 
-fn has_definitions(section: Option<&Token>) -> bool {
-    matches!(
-        section,
-        Some(Token::Reserved(Keyword::Rules | Keyword::Strategies))
-    )
+fn advice_on(facts: &[u8]) -> &'static str {
+    for line in ADVICE.lines() {
+        if let Some((wanted, advice)) = line.split_once(" -- ")
+            && wanted.split(' ').all(|fact| has_fact(facts, fact))
+        {
+            return advice;
+        }
+    }
+    ""
+}
+
+fn has_fact(facts: &[u8], wanted: &str) -> bool {
+    facts
+        .split(|byte| *byte == b' ')
+        .any(|fact| fact == wanted.as_bytes())
+}
+
+impl<'a> Stuck<'a> {
+    /// What to write instead, where the token or what is before it looks like a known mistake; else
+    /// nothing.
+    pub fn advice(&self, alloc: Global) -> Result<&'static str, NoMemory> {
+        let mut facts = Hint::new(alloc);
+        let here = self.spelled(self.number);
+        self.say_tokens(&mut facts, here);
+        self.say_item(&mut facts, here);
+        if matches!(self.after.first(), Some(Token::Reserved(_))) {
+            self.say_word(&mut facts, here);
+        }
+        Ok(advice_on(&facts.into_text()?))
+    }
+
+    // The bytes of a token, up to the first blank in it; none if there is no such token.
+    fn spelled(&self, number: usize) -> &'a [u8] {
+        split_word(token_of(self.text, number).0).0
+    }
+
+    fn spelled_before(&self, number: usize) -> &'a [u8] {
+        match number.checked_sub(1) {
+            Some(before) => self.spelled(before),
+            None => &[],
+        }
+    }
+
+    fn spelled_after(&self) -> &'a [u8] {
+        self.spelled(self.number.saturating_add(1))
+    }
+
+    // The token, those beside it, that before an open `<` and the first one of the item; and what it and
+    // the one before it are, and are used for.
+    fn say_tokens(&self, facts: &mut Hint, here: &'a [u8]) {
+        let (before, next) = (self.spelled_before(self.number), self.spelled_after());
+        let guard = match self.open {
+            Some(open) if matches!(open.form, OpenForm::Guard) => self.spelled_before(open.token),
+            _ => &[],
+        };
+        let begins = match self.item {
+            [] => here,
+            [_] => before,
+            _ => &[],
+        };
+        let (before, here) = (Fill::Bytes(before), Fill::Bytes(here));
+        say!(facts; "before={} here={} next={} near={} near={} near={} begins={}", before, here, Fill::Bytes(next), before, here, Fill::Bytes(guard), Fill::Bytes(begins));
+        let (role, was) = (Fill::Words(self.role), Fill::Words(self.role_before));
+        let (kind, ended) = (kind_of(self.after.first()), kind_of(self.before.last()));
+        let after = Fill::Words(if ended == "none" { "other" } else { "operand" });
+        say!(facts; " role={} was={} kind={} kind-before={} after={}", role, was, Fill::Words(kind), Fill::Words(ended), after);
+    }
+
+    // What the item and its section are, and of some words the last before the token or in the item.
+    fn say_item(&self, facts: &mut Hint, here: &[u8]) {
+        let text = Fill::Words(if self.is_module { "module" } else { "strategy" });
+        let open = Fill::Words(if self.open.is_none() { "none" } else { "form" });
+        let (item, section) = (Fill::Words(self.item_word(here)), Fill::Words(self.section));
+        say!(facts; " text={} open={} item={} section={}", text, open, item, section);
+        let (has, body) = (last_of(self.before, "let"), last_of(self.before, "-> ="));
+        let (last, side) = (
+            last_of(self.before, "where -> ="),
+            last_of(self.item, "-> ?"),
+        );
+        say!(facts; " has={} body={} last={} side={}", Fill::Words(has), Fill::Words(body), Fill::Words(last), Fill::Words(side));
+        if begins_header(self.after) {
+            say!(facts; " header=whole");
+        }
+        if has_word("= :", here) {
+            say!(facts; " ended={}", Fill::Words(mark_before_header(self.before)));
+        }
+    }
+
+    // Of a reserved word: which it is, and whether a list ends after it.
+    fn say_word(&self, facts: &mut Hint, here: &[u8]) {
+        let next = self.spelled_after();
+        if has_word("where", here) && !self.open.is_some_and(|open| is_bracket(open.form)) {
+            say!(facts; " word=where");
+        } else if has_word(SECTIONS, here) {
+            say!(facts; " word=reserved word=section");
+        } else {
+            say!(facts; " word=reserved word=plain");
+        }
+        if next.is_empty() || has_word(") ] } , | :", next) {
+            say!(facts; " list=ends");
+        }
+    }
+
+    // What the item is: new; of a definition its name and parameters alone, or one with a strategy where
+    // the left side of a rule has to be; or else.
+    fn item_word(&self, here: &[u8]) -> &'static str {
+        if self.item.is_empty() {
+            "new"
+        } else if !has_word("rules strategies", self.section.as_bytes()) {
+            "other"
+        } else if let Some([]) = after_header(self.item)
+            && matches!(self.item.first(), Some(Token::Ident(_)))
+        {
+            "bare"
+        } else if self.is_strategy_after_colon(here) {
+            "strategy"
+        } else {
+            "other"
+        }
+    }
+
+    fn is_strategy_after_colon(&self, here: &[u8]) -> bool {
+        let begins = has_word("? ! <", here)
+            || (matches!(self.after.first(), Some(Token::Reserved(_)))
+                && !has_word(SECTIONS, here)
+                && !has_word("then else end", here));
+        last_of(self.item, ":") == ":"
+            && last_of(self.item, "-> =") == "none"
+            && first_of(self.after, "-> : =") != "->"
+            && (self.open.is_none() || (begins && self.section == "strategies"))
+    }
 }
 
 /// Whether the form is in brackets.
@@ -161,285 +280,62 @@ pub fn is_bracket(form: OpenForm) -> bool {
     matches!(form, OpenForm::Round | OpenForm::Square | OpenForm::Curly)
 }
 
-impl Stuck<'_> {
-    /// What to write instead, where the token or what is before it looks like a known mistake; else
-    /// nothing.
-    pub fn advice(&self) -> &'static str {
-        let here = self.spelled(self.number);
-        let before = self.spelled_before(self.number);
-        let mut said = self.on_absent(before, here);
-        if said.is_empty() {
-            said = self.on_words(before, here);
-        }
-        if said.is_empty() && self.is_module {
-            said = self.on_definition(here);
-        }
-        if said.is_empty() {
-            said = self.on_sign();
-        }
-        if said.is_empty() && matches!(self.after.first(), Some(Token::Reserved(_))) {
-            said = self.on_reserved(before, here);
-        }
-        said
-    }
-
-    // The bytes of the token of this number; none if there is no such token.
-    fn spelled(&self, number: usize) -> &[u8] {
-        token_of(self.text, number).0
-    }
-
-    fn spelled_before(&self, number: usize) -> &[u8] {
-        match number.checked_sub(1) {
-            Some(before) => self.spelled(before),
-            None => &[],
-        }
-    }
-
-    // A form that isn't here, begun by the token, the one before it, or the one before an open `<`.
-    fn on_absent(&self, before: &[u8], here: &[u8]) -> &'static str {
-        let said = or(instead_of(before), instead_of(here));
-        match self.open {
-            _ if !said.is_empty() => said,
-            Some(open) if matches!(open.form, OpenForm::Guard) => {
-                instead_of(self.spelled_before(open.token))
-            }
-            // `main = let f = id in f end` is read as far as `in`: a definition, and another one.
-            _ if (has_word("in", before) || has_word("in", here)) && has_let(self.before) => {
-                instead_of(b"let")
-            }
-            _ => "",
-        }
-    }
-
-    // On words that aren't what they seem, and on terms in the place of strategies.
-    fn on_words(&self, before: &[u8], here: &[u8]) -> &'static str {
-        let is_strategy = matches!(self.role, Some(Role::Strategy));
-        let was_strategy = matches!(self.role_before, Some(Role::Strategy));
-        let begins = self.is_module && self.item.len() < 2;
-        let meant = said_of(MEANT, if self.item.is_empty() { here } else { before });
-        if self.is_here(Sign::Colon) && is_sign(self.after, 1, Sign::Equals) {
-            "there is no `x := s`: write `s => x`"
-        } else if begins && !meant.is_empty() {
-            meant
-        } else if is_strategy && is_term(self.after.first()) && !self.is_after_operand() {
-            NO_TERM
-        } else if was_strategy && matches!(self.before.last(), Some(Token::Integer(_))) {
-            NO_TERM
-        } else if was_strategy {
-            said_of(BRACKETS, before)
-        } else {
-            ""
-        }
-    }
-
-    // On the definition of a module that begins with the token, or that it is in.
-    fn on_definition(&self, here: &[u8]) -> &'static str {
-        let is_name = matches!(self.item.first(), Some(Token::Ident(_)));
-        if !self.item.is_empty() {
-            let header = after_header(self.item).unwrap_or(self.item);
-            return if !has_definitions(self.section) {
-                ""
-            } else if is_name && header.is_empty() {
-                "after the name of a definition comes `=` or `:`"
-            } else if self.is_strategy_after_colon(here) {
-                "after `:` comes a rule `l -> r`: define a strategy by `=`"
-            } else {
-                ""
-            };
-        }
-        match self.after.first() {
-            Some(Token::Ident(_)) if self.section.is_none() && is_header(self.after) => {
-                "a definition comes after `rules` or `strategies`"
-            }
-            Some(Token::Sign(Sign::Equals | Sign::Colon)) => on_separator(self.before),
-            Some(Token::Reserved(Keyword::If)) if ends_rule(self.before) => {
-                "the condition of a rule comes after `where`"
-            }
-            _ => "",
-        }
-    }
-
-    fn on_sign(&self) -> &'static str {
-        let is_pattern = matches!(self.role, Some(Role::Matched | Role::Built));
-        let is_operand = self.is_after_operand();
-        if self.is_here(Sign::Plus) {
-            "there is no `s + t` alone: write `s <+ t`, or `c < s + t`"
-        } else if self.is_here(Sign::Less) && is_pattern && !is_operand {
-            on_application(self.item)
-        } else if self.is_here(Sign::Semicolon)
-            && self.is_module
-            && is_operand
-            && self.open.is_none()
-        {
-            NO_SEMICOLON
-        } else {
-            ""
-        }
-    }
-
-    // On a reserved word.
-    fn on_reserved(&self, before: &[u8], here: &[u8]) -> &'static str {
-        let is_call = is_sign(self.after, 1, Sign::OpenRound);
-        if has_word("where", here) && !self.is_in_brackets() {
-            self.on_where()
-        } else if has_word("sorts constructors", here) && self.item.is_empty() {
-            "the word begins a part of a `signature`"
-        } else if has_word("rules", here) && is_call && matches!(self.role, Some(Role::Strategy)) {
-            "there are no dynamic rules"
-        } else if self.is_name_meant(before, here) {
-            "the word is reserved, and is no name"
-        } else {
-            ""
-        }
-    }
-
-    fn is_here(&self, sign: Sign) -> bool {
-        is_sign(self.after, 0, sign)
-    }
-
-    // Whether a whole strategy or pattern may end with the token before.
-    fn is_after_operand(&self) -> bool {
-        match self.before.last() {
-            Some(Token::Ident(_) | Token::Wildcard | Token::Integer(_) | Token::Text(_)) => true,
-            Some(Token::Reserved(Keyword::Id | Keyword::Fail | Keyword::End)) => true,
-            Some(Token::Sign(Sign::CloseRound | Sign::CloseSquare | Sign::CloseCurly)) => true,
-            _ => false,
-        }
-    }
-
-    // Whether a strategy stands where the left side of a rule has to be.
-    fn is_strategy_after_colon(&self, here: &[u8]) -> bool {
-        let begins = match self.after.first() {
-            Some(Token::Sign(Sign::Question | Sign::Exclamation | Sign::Less)) => true,
-            Some(Token::Reserved(_)) => {
-                !has_word(SECTIONS, here) && !has_word("then else end", here)
-            }
-            _ => false,
-        };
-        ends_left(self.item)
-            && !begins_left(self.after)
-            && (self.open.is_none()
-                || (begins && matches!(self.section, Some(Token::Reserved(Keyword::Strategies)))))
-    }
-
-    fn is_in_brackets(&self) -> bool {
-        match self.open {
-            Some(open) => is_bracket(open.form),
-            None => false,
-        }
-    }
-
-    fn on_where(&self) -> &'static str {
-        let mut said = if self.is_module { "" } else { ONLY_RULE };
-        for token in self.before {
-            if is_word(token, Keyword::Where) {
-                said = "a rule and a closure have one `where` at most: join conditions by `;`";
-            } else if is_mark(token, Sign::Arrow) {
-                said = "";
-            } else if is_mark(token, Sign::Equals) {
-                said = ONLY_RULE;
-            }
-        }
-        said
-    }
-
-    // Whether the reserved word stands where a name has to, and not where a bracket is lost.
-    fn is_name_meant(&self, before: &[u8], here: &[u8]) -> bool {
-        let next = self.spelled(self.number.saturating_add(1));
-        let ends_list = next.is_empty() || has_word(") ] } , | :", next);
-        let is_section = has_word(SECTIONS, here);
-        if self.is_module && self.item.is_empty() {
-            return is_header(self.after);
-        }
-        match self.role {
-            _ if self.is_after_operand() => false,
-            Some(Role::Matched | Role::Built) => !is_section || ends_list,
-            Some(Role::Binding) => has_word("rec", before) || ends_list,
-            Some(Role::Strategy) => is_section && ends_list,
-            _ => false,
-        }
+fn role_word(role: Option<&Role>) -> &'static str {
+    match role {
+        Some(Role::Definition) => "name",
+        Some(Role::Binding) => "binding",
+        Some(Role::Strategy) => "strategy",
+        Some(Role::Matched | Role::Built) => "pattern",
+        None => "none",
     }
 }
 
-fn or(said: &'static str, other: &'static str) -> &'static str {
-    if said.is_empty() { other } else { said }
-}
-
-fn is_term(token: Option<&Token>) -> bool {
-    matches!(
-        token,
-        Some(Token::Text(_) | Token::Integer(_) | Token::Wildcard)
-    )
-}
-
-fn has_let(tokens: &[Token]) -> bool {
-    for token in tokens {
-        if let Token::Ident(name) = token
-            && has_word("let", name.bytes())
-        {
-            return true;
-        }
-    }
-    false
-}
-
-// The advice on an application in a pattern, after these tokens.
-fn on_application(before: &[Token]) -> &'static str {
-    let mut is_right = false;
-    for token in before {
-        match token {
-            Token::Sign(Sign::Arrow) => is_right = true,
-            Token::Sign(Sign::Question | Sign::Exclamation | Sign::FatArrow | Sign::Greater) => {
-                is_right = false;
-            }
-            _ => {}
-        }
-    }
-    if is_right {
-        "there is no `<s> p` in a pattern: write a rule `.. -> y where <s> p => y`"
-    } else {
-        "there is no `<s> p` in a pattern: write `<s> p => x` before, and x in the pattern"
+// What a token is, if a whole strategy or pattern may end with it.
+fn kind_of(token: Option<&Token>) -> &'static str {
+    match token {
+        Some(Token::Ident(_)) => "name",
+        Some(Token::Integer(_)) => "integer",
+        Some(Token::Text(_) | Token::Wildcard) => "term",
+        Some(Token::Reserved(Keyword::Id | Keyword::Fail | Keyword::End)) => "word",
+        Some(Token::Sign(Sign::CloseRound | Sign::CloseSquare | Sign::CloseCurly)) => "bracket",
+        _ => "none",
     }
 }
 
 // ---- the tokens of definitions
 
-// Whether the last definition of these tokens is a rule.
-fn ends_rule(before: &[Token]) -> bool {
-    let mut is_rule = false;
-    for token in before {
-        match token {
-            Token::Sign(Sign::Arrow) => is_rule = true,
-            Token::Sign(Sign::Equals) => is_rule = false,
-            _ => {}
-        }
+// The word or sign that a token is, of those that parts of texts begin with; `?` for each that begins or
+// ends a pattern.
+fn mark_of(token: &Token) -> &'static str {
+    match token {
+        Token::Sign(Sign::Arrow) => "->",
+        Token::Sign(Sign::Equals) => "=",
+        Token::Sign(Sign::Colon) => ":",
+        Token::Sign(Sign::Semicolon) => ";",
+        Token::Sign(Sign::LeftChoice) => "<+",
+        Token::Sign(Sign::Question | Sign::Exclamation | Sign::FatArrow | Sign::Greater) => "?",
+        Token::Reserved(Keyword::Where) => "where",
+        Token::Reserved(Keyword::Signature) => "signature",
+        Token::Reserved(Keyword::Rules) => "rules",
+        Token::Reserved(Keyword::Strategies) => "strategies",
+        Token::Ident(name) if name.bytes() == b"let".as_slice() => "let",
+        _ => "none",
     }
-    is_rule
 }
 
-// Whether a definition has its `:` in these tokens, and neither `=` nor `->`.
-fn ends_left(tokens: &[Token]) -> bool {
-    let mut is_left = false;
-    for token in tokens {
-        match token {
-            Token::Sign(Sign::Colon) => is_left = true,
-            Token::Sign(Sign::Arrow | Sign::Equals) => return false,
-            _ => {}
-        }
-    }
-    is_left
+// The last of these words among the tokens, and the first; `none` if there is none.
+fn last_of(tokens: &[Token], words: &str) -> &'static str {
+    let is_wanted = |mark: &&str| has_word(words, mark.as_bytes());
+    tokens
+        .iter()
+        .map(mark_of)
+        .rfind(is_wanted)
+        .unwrap_or("none")
 }
 
-// Whether a `->` comes in these tokens before a `:` and a `=`.
-fn begins_left(tokens: &[Token]) -> bool {
-    for token in tokens {
-        match token {
-            Token::Sign(Sign::Arrow) => return true,
-            Token::Sign(Sign::Colon | Sign::Equals) => return false,
-            _ => {}
-        }
-    }
-    false
+fn first_of(tokens: &[Token], words: &str) -> &'static str {
+    let is_wanted = |mark: &&str| has_word(words, mark.as_bytes());
+    tokens.iter().map(mark_of).find(is_wanted).unwrap_or("none")
 }
 
 // What follows the name of a definition that these tokens begin with, and its parameters.
@@ -447,21 +343,19 @@ fn after_header(tokens: &[Token]) -> Option<&[Token]> {
     if !is_sign(tokens, 1, Sign::OpenRound) {
         return tokens.get(1..);
     }
-    for (number, token) in tokens.iter().enumerate() {
-        if is_mark(token, Sign::CloseRound) {
-            return tokens.get(number.saturating_add(1)..);
-        }
-    }
-    None
+    let end = tokens
+        .iter()
+        .position(|token| is_mark(token, Sign::CloseRound))?;
+    tokens.get(end.saturating_add(1)..)
 }
 
-fn is_header(tokens: &[Token]) -> bool {
+fn begins_header(tokens: &[Token]) -> bool {
     let rest = after_header(tokens).unwrap_or(&[]);
     is_sign(rest, 0, Sign::Equals) || is_sign(rest, 0, Sign::Colon)
 }
 
-// A sign before the header at the end of these tokens, which doesn't end the definition before.
-fn on_separator(before: &[Token]) -> &'static str {
+// The mark before the header at the end of these tokens.
+fn mark_before_header(before: &[Token]) -> &'static str {
     let last = before.len().saturating_sub(1);
     let mut name = last;
     if is_sign(before, last, Sign::CloseRound) {
@@ -472,8 +366,7 @@ fn on_separator(before: &[Token]) -> &'static str {
         }
     }
     match before.get(..name).unwrap_or(&[]).last() {
-        Some(Token::Sign(Sign::Semicolon)) => NO_SEMICOLON,
-        Some(Token::Sign(Sign::LeftChoice)) => "no `<+` ends a definition",
-        _ => "",
+        Some(token) => mark_of(token),
+        None => "none",
     }
 }

@@ -1,23 +1,22 @@
 //! Texts that are no terms, no strategies, or no modules.
 
-use crate::characters::{begins_with_mark, character_at};
 use crate::explainer::Explainer;
-use crate::hint::{Fill, say};
-use crate::modules::{token_of, tokens_of};
 use crate::stuck::{Stuck, is_bracket, stuck_of};
+use hint_text::{Fill, begins_with_mark, character_at, say, token_of, tokens_of};
 use strategy_tokens::Token;
 use term_core::NoMemory;
 use text_faults::{
-    BadToken, OpenForm, OpenToken, StuckTerm, TermFault, bad_token, stuck_annotations, stuck_term,
+    BadToken, OpenForm, StuckTerm, TermFault, bad_token, stuck_annotations, stuck_term,
 };
 
 /// What is said of a text that begins with the bytes EF BB BF.
 pub const BEGINS_WITH_MARK: &str = "the text begins with a byte order mark (U+FEFF)";
 
-const OPEN_STRING: &str = "the string at {} isn't closed";
-
 const OUT_OF_RANGE: &str =
     "the integer at {} isn't from -9223372036854775808 to 9223372036854775807";
+
+const ESCAPES: &str =
+    "the escapes are \\\" \\\\ \\n \\t \\r and \\ with three octal digits, at most \\377";
 
 impl<'a> Explainer<'a, '_, '_> {
     // ---- terms
@@ -31,7 +30,7 @@ impl<'a> Explainer<'a, '_, '_> {
             stuck_term(self.alloc, text)?
         };
         if let Some(stuck) = found {
-            say!(self; ": ");
+            say!(self.hint; ": ");
             self.say_stuck_term(stuck);
             if stuck.at == 0 && begins_with_mark(text) {
                 self.say_advice(BEGINS_WITH_MARK);
@@ -43,16 +42,19 @@ impl<'a> Explainer<'a, '_, '_> {
     fn say_stuck_term(&mut self, stuck: StuckTerm) {
         let at = stuck.at;
         match stuck.fault {
-            TermFault::End => self.say_term_end(stuck),
+            TermFault::End => match stuck.open {
+                Some(open) => self.say_here("the term ends too early; the {} at {} is open", open),
+                None => say!(self.hint; "the term is missing"),
+            },
             TermFault::Byte => self.say_byte(stuck),
             TermFault::After => self.say_here("the term ends before {} at {}", at),
             TermFault::Real => self.say_at("the number at {} is a real, and there are none", at),
             TermFault::Placeholder => {
                 self.say_at("the `<` at {} begins a placeholder, and there are none", at);
             }
-            TermFault::OpenString => self.say_at(OPEN_STRING, at),
-            TermFault::Escape => self.say_escape(at),
-            TermFault::Range => self.say_at(OUT_OF_RANGE, at),
+            TermFault::OpenString => self.say_bad(BadToken::OpenString, at),
+            TermFault::Escape => self.say_bad(BadToken::Escape(0), at),
+            TermFault::Range => self.say_bad(BadToken::Range, at),
         }
     }
 
@@ -64,28 +66,16 @@ impl<'a> Explainer<'a, '_, '_> {
         } else {
             "no term goes on with {} at {}"
         };
-        say!(self; sentence, self.character(stuck.at), self.at(stuck.at));
+        say!(self.hint; sentence, self.character(stuck.at), self.at(stuck.at));
         if let Some(open) = stuck.open {
-            say!(self; "; the {} at {} is open", self.character(open), self.at(open));
+            say!(self.hint; "; the {} at {} is open", self.character(open), self.at(open));
         }
         self.show(stuck.at);
     }
 
-    fn say_term_end(&mut self, stuck: StuckTerm) {
-        match stuck.open {
-            Some(open) => self.say_here("the term ends too early; the {} at {} is open", open),
-            None => say!(self; "the term is missing"),
-        }
-    }
-
-    fn say_escape(&mut self, start: usize) {
-        self.say_at("the escape at {} isn't known", start);
-        say!(self; "\n    the escapes are \\\" \\\\ \\n \\t \\r and \\ with three octal digits, at most \\377");
-    }
-
     // Appends a sentence with the character at this place of the text, and the place, which is shown.
     fn say_here(&mut self, sentence: &str, start: usize) {
-        say!(self; sentence, self.character(start), self.at(start));
+        say!(self.hint; sentence, self.character(start), self.at(start));
         self.show(start);
     }
 
@@ -107,84 +97,85 @@ impl<'a> Explainer<'a, '_, '_> {
     fn say_syntax(&mut self, tokens: &[Token]) -> Result<(), NoMemory> {
         let parts = self.parts;
         let stuck = stuck_of(self.alloc, &parts, tokens)?;
-        say!(self; ": {} {}: ", Fill::Bytes(parts.word), Fill::Bytes(parts.name));
+        let advice = stuck.advice(self.alloc)?;
+        say!(self.hint; ": {} {}: ", Fill::Bytes(parts.word), Fill::Bytes(parts.name));
         let kind = Fill::Words(if parts.is_module() {
             "module"
         } else {
             "strategy"
         });
         match stuck.after.first() {
-            Some(Token::Bad) => self.say_bad(stuck.number),
-            Some(_) => self.say_stuck(kind, &stuck),
-            None => self.say_end(kind, &stuck),
+            Some(Token::Bad) => {
+                let (bytes, start) = token_of(parts.text, stuck.number);
+                self.say_bad(bad_token(bytes), start);
+            }
+            Some(_) => self.say_stuck(kind, &stuck, advice),
+            None => self.say_end(kind, &stuck, advice),
         }
         Ok(())
     }
 
     // A token that doesn't go on. The open form is named where nothing better is known.
-    fn say_stuck(&mut self, kind: Fill<'_>, stuck: &Stuck<'_>) {
-        let advice = stuck.advice();
+    fn say_stuck(&mut self, kind: Fill<'_>, stuck: &Stuck<'_>, advice: &str) {
         let (token, start, at) = self.token(stuck.number);
         let goes_on = Fill::Words(if stuck.number == 0 {
             "begins"
         } else {
             "goes on"
         });
-        say!(self; "no {} {} with {} at {}", kind, goes_on, token, at);
-        if advice.is_empty() {
-            self.say_open(stuck.open);
+        say!(self.hint; "no {} {} with {} at {}", kind, goes_on, token, at);
+        if let Some(open) = stuck.open
+            && advice.is_empty()
+        {
+            let (form, _start, at) = self.token(open.token);
+            let sentence = if is_bracket(open.form) {
+                "; the {} at {} is open"
+            } else {
+                "; the {} at {} has no {}"
+            };
+            say!(self.hint; sentence, form, at, lack_of(open.form));
         }
         self.show(start);
         self.say_advice(advice);
     }
 
-    fn say_open(&mut self, open: Option<OpenToken>) {
-        let Some(open) = open else {
-            return;
-        };
-        let (form, _start, at) = self.token(open.token);
-        if is_bracket(open.form) {
-            say!(self; "; the {} at {} is open", form, at);
+    // A text that ends too early.
+    fn say_end(&mut self, kind: Fill<'_>, stuck: &Stuck<'_>, advice: &str) {
+        if stuck.number == 0 {
+            say!(self.hint; "the {} is missing", kind);
+        } else if let Some(open) = stuck.open {
+            let (form, start, at) = self.token(open.token);
+            say!(self.hint; "the {} ends too early: the {} at {} has no {}", kind, form, at, lack_of(open.form));
+            self.show(start);
         } else {
-            say!(self; "; the {} at {} has no {}", form, at, lack_of(open.form));
+            let (last, start, at) = self.token(stuck.number.saturating_sub(1));
+            say!(self.hint; "the {} ends too early: it can't end with {} at {}", kind, last, at);
+            self.show(start);
+            self.say_advice(advice);
         }
     }
 
     /// Appends a line with the advice, unless it is empty.
     pub fn say_advice(&mut self, advice: &str) {
         if !advice.is_empty() {
-            say!(self; "\n    {}", Fill::Words(advice));
+            say!(self.hint; "\n    {}", Fill::Words(advice));
         }
     }
 
-    fn say_bad(&mut self, number: usize) {
-        let (bytes, start) = token_of(self.parts.text, number);
-        match bad_token(bytes) {
-            BadToken::OpenString => self.say_at(OPEN_STRING, start),
+    // A token that is none, or a part of a term, after so many bytes of the text.
+    fn say_bad(&mut self, bad: BadToken, start: usize) {
+        match bad {
+            BadToken::OpenString => self.say_at("the string at {} isn't closed", start),
             BadToken::OpenComment => self.say_at("the comment at {} isn't closed", start),
-            BadToken::Escape(more) => self.say_escape(start.saturating_add(more)),
+            BadToken::Escape(more) => {
+                self.say_at("the escape at {} isn't known", start.saturating_add(more));
+                self.say_advice(ESCAPES);
+            }
             BadToken::Range => self.say_at(OUT_OF_RANGE, start),
             BadToken::Byte => {
                 self.say_here("no token begins with {} at {}", start);
                 self.say_advice(advice_on_bytes(self.parts.text, start));
             }
-        }
-    }
-
-    // A text that ends too early.
-    fn say_end(&mut self, kind: Fill<'_>, stuck: &Stuck<'_>) {
-        if stuck.number == 0 {
-            say!(self; "the {} is missing", kind);
-        } else if let Some(open) = stuck.open {
-            let (form, start, at) = self.token(open.token);
-            let lack = lack_of(open.form);
-            say!(self; "the {} ends too early: the {} at {} has no {}", kind, form, at, lack);
-            self.show(start);
-        } else {
-            let (last, start, at) = self.token(stuck.number.saturating_sub(1));
-            say!(self; "the {} ends too early: it can't end with {} at {}", kind, last, at);
-            self.show(start);
-            self.say_advice(stuck.advice());
         }
     }
 }

@@ -1,8 +1,7 @@
 //! What a tree has at a path, and what a strategy was applied to.
 
 use crate::explainer::Explainer;
-use crate::hint::{Fill, say};
-use crate::modules::{Text, have_constant, read_strategy};
+use hint_text::{Fill, Text, declaring, read_strategy, say};
 use session_history::Timeline;
 use term_core::{Label, NoMemory, Term};
 use term_paths::{Path, PathFault, at, read_path};
@@ -27,29 +26,28 @@ impl Explainer<'_, '_, '_> {
 
     /// Refusal 9: the longest front of the path that is there, and how many children that subterm has.
     pub fn explain_path(&mut self, history: &Timeline) -> Result<(), NoMemory> {
-        let Some(tree) = self.tree(history) else {
+        let Some(mut subterm) = self.tree(history) else {
             return Ok(());
         };
         let path = self.path()?;
         let whole = Fill::Quoted(self.parts.path.unwrap_or(&[]));
-        say!(self; ": {} leads only as far as `/", whole);
-        let mut subterm = tree;
+        say!(self.hint; ": {} leads only as far as `/", whole);
         let mut separator = "";
         for part in path.parts() {
             let Some(child) = subterm.child(*part) else {
                 break;
             };
             subterm = child;
-            say!(self; "{}{}", Fill::Words(separator), Fill::Number(*part as u64));
+            say!(self.hint; "{}{}", Fill::Words(separator), Fill::Number(*part as u64));
             separator = "/";
         }
         drop(path);
-        let count = Fill::Number(subterm.child_count() as u64);
-        match subterm.child_count() {
-            0 => say!(self; "`, where the subterm has no children"),
-            1 => say!(self; "`, where the subterm has 1 child; children are counted from 0"),
-            _ => say!(self; "`, where the subterm has {} children; they are counted from 0", count),
-        }
+        let count = subterm.child_count() as u64;
+        say!(self.hint; match count {
+            0 => "`, where the subterm has no children",
+            1 => "`, where the subterm has 1 child; children are counted from 0",
+            _ => "`, where the subterm has {} children; they are counted from 0",
+        }, Fill::Number(count));
         Ok(())
     }
 
@@ -57,15 +55,12 @@ impl Explainer<'_, '_, '_> {
     /// name of a constant.
     pub fn explain_fails(&mut self, history: &Timeline) -> Result<(), NoMemory> {
         let path = self.path()?;
-        let term = match self.tree(history) {
-            Some(tree) => at(tree, &path),
-            None => None,
-        };
+        let term = self.tree(history).and_then(|tree| at(tree, &path));
         drop(path);
         let Some(term) = term else {
             return Ok(());
         };
-        say!(self; ": it was applied to ");
+        say!(self.hint; ": it was applied to ");
         self.hint.root(term.kind(), term.child_count() as u64);
         let strategy = read_strategy(self.alloc, self.parts.text)?;
         self.say_constant(&strategy);
@@ -77,11 +72,10 @@ impl Explainer<'_, '_, '_> {
     fn say_constant(&mut self, strategy: &Text<'_>) {
         for number in 0..strategy.tokens.len() {
             if let Some(variable) = strategy.variable_at(number)
-                && have_constant(self.modules, variable)
+                && declaring(self.modules, variable, 0).is_some()
             {
                 let (name, _start, at) = self.token(number);
-                let constant = Fill::Bytes(variable.bytes());
-                say!(self; "\n    {} at {} is a variable; the constant is `{}()`", name, at, constant);
+                say!(self.hint; "\n    {} at {} is a variable; the constant is `{}()`", name, at, Fill::Bytes(variable.bytes()));
                 return;
             }
         }

@@ -1,23 +1,20 @@
-//! What is odd in an accepted module or term.
+//! What is odd in an accepted command.
 
-use crate::command::{Past, Seen, parts_of};
 use crate::explainer::Explainer;
-use crate::hint::{Fill, Hint, say};
-use crate::modules::{Text, arity_of, have_constant, is_sign, read_modules};
-use script_text::Framing;
+use hint_text::{
+    Fill, Hint, Past, Seen, Text, arity_of, declaring, is_sign, parts_of, read_modules, say,
+};
+use script_text::{Framing, Keyword as Command};
 use session_history::Timeline;
 use std::alloc::Global;
 use strategy_syntax::Definition;
 use strategy_tokens::{Keyword, Sign, Token, is_mark, is_word};
 use term_core::{Name, NoMemory};
 
-const OPEN_AT_END: &str =
-    "{}: warning: the group is still open at the end: what it changed is no step";
-
 // The most bytes of a term that is looked through.
 const LOOKED: usize = 16_384;
 
-/// A line for each oddity of a module or a term that was accepted, without a line feed at the end;
+/// A line for each oddity of a command that was accepted, without a line feed at the end;
 /// nothing if there is none. The history is the one after the command.
 ///
 /// Errors: `NoMemory` if memory can't grow.
@@ -27,29 +24,38 @@ pub fn warn<'a>(
     seen: &Seen<'a>,
 ) -> Result<Vec<u8>, NoMemory> {
     let parts = parts_of(seen.text);
-    let is_looked_at = parts.is_term() && parts.text.len() <= LOOKED;
-    if !parts.is_module() && !is_looked_at {
+    if matches!(parts.command, Command::Apply) {
+        return warn_of_nothing(alloc, history, seen);
+    }
+    if !parts.is_module() && (!parts.is_term() || parts.text.len() > LOOKED) {
         return Ok(Vec::new(alloc));
     }
     let names = history.module_names()?;
     let modules = read_modules(alloc, history, &names, &parts, false)?;
-    let said = warn_by(alloc, seen, &modules);
-    drop(modules);
-    said
-}
-
-// The same, by the modules.
-fn warn_by(alloc: Global, seen: &Seen<'_>, modules: &[Text<'_>]) -> Result<Vec<u8>, NoMemory> {
-    let mut explainer = Explainer::new(alloc, seen, modules);
-    let warned = if explainer.parts.is_module() {
+    let mut explainer = Explainer::new(alloc, seen, &modules, history.limits());
+    let warned = if parts.is_module() {
         explainer.warn_of_modules();
         Ok(())
     } else {
         explainer.warn_of_constructors()
     };
-    let said = explainer.into_text();
+    let said = explainer.hint.into_text();
+    drop(modules);
     warned?;
     said
+}
+
+// Of an `apply` that replaced nothing. In a group nothing is said.
+fn warn_of_nothing<'a>(
+    alloc: Global,
+    history: &'a Timeline,
+    seen: &Seen<'a>,
+) -> Result<Vec<u8>, NoMemory> {
+    let mut explainer = Explainer::new(alloc, seen, &[], history.limits());
+    if history.last_is_empty() {
+        say!(explainer.hint; "{}: warning: the strategy replaced nothing", explainer.source());
+    }
+    explainer.hint.into_text()
 }
 
 /// What is odd at the end of a script, in the form of `warn`: a group that is still open.
@@ -58,8 +64,7 @@ fn warn_by(alloc: Global, seen: &Seen<'_>, modules: &[Text<'_>]) -> Result<Vec<u
 pub fn warn_of_end(alloc: Global, past: Past) -> Result<Vec<u8>, NoMemory> {
     let mut hint = Hint::new(alloc);
     if let (Some(line), true) = (past.group, past.open) {
-        let rest = hint.say_up_to(OPEN_AT_END, Fill::Line(line));
-        hint.words(rest);
+        say!(hint; "{}: warning: the group is still open at the end: what it changed is no step", Fill::Line(line));
     }
     hint.into_text()
 }
@@ -87,23 +92,15 @@ fn read_definition<'a>(module: &'a Text<'_>, number: usize) -> Option<Read<'a>> 
 // A definition with a `:` before its body is a rule. Returned are the numbers of its `->` and of its
 // `where` or the token after it.
 fn rule_of(tokens: &[Token], first: usize) -> Option<(usize, usize)> {
-    let mut is_rule = false;
-    let mut arrow = 0usize;
-    let mut number = first;
-    for token in tokens {
-        if is_mark(token, Sign::Equals) && !is_rule {
-            return None;
-        }
-        is_rule = is_rule || is_mark(token, Sign::Colon);
-        if arrow == 0 && is_mark(token, Sign::Arrow) {
-            arrow = number;
-        }
-        if is_word(token, Keyword::Where) {
-            break;
-        }
-        number = number.saturating_add(1);
-    }
-    (arrow > 0).then_some((arrow, number))
+    let is_separator = |it: &Token| is_mark(it, Sign::Colon) || is_mark(it, Sign::Equals);
+    let separator = tokens.iter().position(is_separator)?;
+    let arrow = tokens.iter().position(|it| is_mark(it, Sign::Arrow))?;
+    let condition = tokens
+        .iter()
+        .position(|it| is_word(it, Keyword::Where))
+        .unwrap_or(tokens.len());
+    let is_rule = is_sign(tokens, separator, Sign::Colon);
+    is_rule.then_some((first.saturating_add(arrow), first.saturating_add(condition)))
 }
 
 // Whether it is a rule without a condition whose left side is `_` or a variable.
@@ -122,12 +119,7 @@ fn catches_all(module: &Text<'_>, read: Read<'_>) -> bool {
 }
 
 fn has_name(names: &[Name], name: &Name) -> bool {
-    for found in names {
-        if found.equals(name) {
-            return true;
-        }
-    }
-    false
+    names.iter().any(|it| it.equals(name))
 }
 
 impl Explainer<'_, '_, '_> {
@@ -135,8 +127,7 @@ impl Explainer<'_, '_, '_> {
     fn warn_of_modules(&mut self) {
         if self.parts.text.is_empty() && self.seen.framing == Framing::Lines {
             let name = Fill::Quoted(self.parts.name);
-            say!(self; "{}: warning: the module {} is empty now: each line is a command", self.source(), name);
-            say!(self; "; `undo` takes it back");
+            say!(self.hint; "{}: warning: the module {} is empty now: each line is a command; `undo` takes it back", self.source(), name);
         }
         for module in self.modules {
             for number in 0..module.definitions.len() {
@@ -148,20 +139,24 @@ impl Explainer<'_, '_, '_> {
         }
     }
 
-    // Begins a warning on the token of this number, and names it.
-    fn begin(&mut self, read: Read<'_>, number: usize) {
+    /// Begins a warning on the token of this number, in the definition of this name, if it is in one.
+    pub fn begin_warning(&mut self, within: Option<&Name>, number: usize) {
         if !self.hint.is_empty() {
-            say!(self; "\n");
+            say!(self.hint; "\n");
         }
-        let name = Fill::Quoted(read.definition.name().bytes());
+        say!(self.hint; "{}: warning: ", self.source());
+        if let Some(name) = within {
+            say!(self.hint; "in {}, ", Fill::Quoted(name.bytes()));
+        }
         let (token, _start, at) = self.token(number);
-        say!(self; "{}: warning: in {}, {}: {}", self.source(), name, at, token);
+        say!(self.hint; "{}: {}", at, token);
     }
 
     // Warns once of each variable with the name of a constant, and of each that only the right side of
     // a rule has.
     fn warn_of_variables(&mut self, module: &Text<'_>, read: Read<'_>) {
         let (arrow, condition) = read.rule.unwrap_or((read.end, read.end));
+        let within = Some(read.definition.name());
         for number in read.first..read.end {
             let Some(name) = module.variable_at(number) else {
                 continue;
@@ -169,16 +164,16 @@ impl Explainer<'_, '_, '_> {
             if module.has_variable(name, read.first, number) {
                 continue;
             }
-            if have_constant(self.modules, name) {
-                self.begin(read, number);
-                say!(self; " is a variable; the constant is `{}()`", Fill::Bytes(name.bytes()));
+            if declaring(self.modules, name, 0).is_some() {
+                self.begin_warning(within, number);
+                say!(self.hint; " is a variable; the constant is `{}()`", Fill::Bytes(name.bytes()));
             } else if arrow <= number
                 && number < condition
                 && !has_name(read.definition.term_parameters(), name)
                 && !module.has_variable(name, condition, read.end)
             {
-                self.begin(read, number);
-                say!(self; " is only on the right side: nothing binds it");
+                self.begin_warning(within, number);
+                say!(self.hint; " is only on the right side: nothing binds it");
             }
         }
     }
@@ -191,9 +186,9 @@ impl Explainer<'_, '_, '_> {
                 && arity_of(before.definition) == arity_of(read.definition)
                 && catches_all(module, before)
             {
-                let (_token, _start, at) = self.token(before.first);
-                self.begin(read, read.first);
-                say!(self; " isn't reached: the rule at {} matches every term", at);
+                let at = self.token(before.first).2;
+                self.begin_warning(Some(read.definition.name()), read.first);
+                say!(self.hint; " isn't reached: the rule at {} matches every term", at);
                 return;
             }
         }

@@ -1,7 +1,5 @@
 //! Runs of scripts, and answers to single commands.
 
-ghost use Rattle.session_history.specs.Budget.{IsBudget};
-
 mod commands;
 mod devices;
 mod hosts;
@@ -25,9 +23,7 @@ fn ends(accepted: u64, refused: u64) -> Outcome {
     Ok(Summary { accepted, refused })
 }
 
-fn settings(framing: Framing, stop: bool) -> Settings
-    ensures { IsBudget result.steps }
-{
+fn settings(framing: Framing, stop: bool) -> Settings {
     Settings {
         steps: MAX_BUDGET,
         stop,

@@ -1,7 +1,5 @@
 //! The order of reads and flushes, as somebody sees it who types.
 
-ghost use Rattle.session_history.specs.Budget.{IsBudget};
-
 use super::{new_session, settings};
 use script_core::{Counted, Framing, Settings, Source, run};
 use std::alloc::Global;
@@ -78,9 +76,12 @@ impl Write for SeenWriter<'_> {
 }
 
 // The bytes that are written and flushed at the end, and whether the order is kept.
-fn order_of(alloc: Global, script: &[u8], settings: Settings, early: usize) -> (usize, usize, bool)
-    requires { IsBudget settings.steps }
-{
+fn order_of(
+    alloc: Global,
+    script: &[u8],
+    settings: Settings,
+    early: usize,
+) -> (usize, usize, bool) {
     let order = Order {
         written: Cell::new(0),
         flushed: Cell::new(0),

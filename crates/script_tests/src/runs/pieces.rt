@@ -5,7 +5,7 @@ use super::devices::{Reader, UNDISTURBED};
 use super::{Outcome, ends, new_session, settings};
 use prim_core::NoPrimitives;
 use script_core::{Counted, Framing, Held, Piece, Watch, run_watched};
-use script_hints::Numbered;
+use hint_text::Numbered;
 use session_core::{Refusal, Session};
 use std::alloc::Global;
 use std::test::Fail;

@@ -49,12 +49,8 @@ pub struct Parts<'a> {
 /// The first word, empty if there is none, and what follows it.
 pub fn split_word(text: &[u8]) -> (&[u8], &[u8]) {
     let text = after_blanks(text);
-    for (number, byte) in text.iter().enumerate() {
-        if is_blank(*byte) {
-            return text.split_at(number);
-        }
-    }
-    (text, &[])
+    let end = text.iter().position(|byte| is_blank(*byte));
+    text.split_at(end.unwrap_or(text.len()))
 }
 
 /// The line of a table that begins with this word; empty if none does.
@@ -69,32 +65,7 @@ pub fn line_of(table: &'static str, word: &[u8]) -> &'static str {
 
 /// Whether a form, or another list of words, has this one.
 pub fn has_word(form: &str, word: &[u8]) -> bool {
-    for it in form.split(' ') {
-        if it.as_bytes() == word {
-            return true;
-        }
-    }
-    false
-}
-
-// The word in the place of an operand, if the form has it, and what follows.
-fn split_operand<'a>(form: &str, operand: &str, text: &'a [u8]) -> (Option<&'a [u8]>, &'a [u8]) {
-    if !has_word(form, operand.as_bytes()) {
-        return (None, text);
-    }
-    let (word, rest) = split_word(text);
-    (Some(word), rest)
-}
-
-// The word after that of an option, if the form has the option and its word comes next, and what
-// follows.
-fn split_option<'a>(form: &str, option: &str, text: &'a [u8]) -> (Option<&'a [u8]>, &'a [u8]) {
-    let (word, rest) = split_word(text);
-    if !has_word(form, option.as_bytes()) || option.trim_start_matches('[').as_bytes() != word {
-        return (None, text);
-    }
-    let (word, rest) = split_word(rest);
-    (Some(word), rest)
+    form.split(' ').any(|it| it.as_bytes() == word)
 }
 
 /// The parts of a command.
@@ -103,30 +74,54 @@ pub fn parts_of(text: &[u8]) -> Parts<'_> {
     let (command, rest) = split_keyword(text);
     // The blanks at the end belong to no part.
     let blanks = after.len().saturating_sub(rest.len());
-    let form = line_of(FORMS, word);
-    let (name, rest) = split_operand(form, "N", rest);
-    let (copy, rest) = split_operand(form, "C", rest);
-    let (operand, rest) = split_operand(form, "P", rest);
-    let (option, rest) = split_option(form, "[at", rest);
-    let (budget, rest) = split_option(form, "[within", rest);
-    let (keyword, rest) = split_operand(form, "do", rest);
-    let (steps, rest) = split_operand(form, "[K]", rest);
-    let rest = after_blanks(rest);
-    Parts {
+    let mut parts = Parts {
         word,
         command,
-        form,
-        name: name.unwrap_or(&[]),
-        copy: copy.unwrap_or(&[]),
-        path: operand.or(option),
-        number: steps.or(budget),
-        keyword: keyword.unwrap_or(&[]),
+        form: line_of(FORMS, word),
+        name: &[],
+        copy: &[],
+        path: None,
+        number: None,
+        keyword: &[],
         text: rest,
-        at: text.len().saturating_sub(blanks).saturating_sub(rest.len()),
+        at: 0,
+    };
+    for operand in parts.form.split(' ').skip(1) {
+        parts.take(operand);
     }
+    parts.text = after_blanks(parts.text);
+    parts.at = text
+        .len()
+        .saturating_sub(blanks)
+        .saturating_sub(parts.text.len());
+    parts
 }
 
-impl Parts<'_> {
+impl<'a> Parts<'a> {
+    // Takes the word in the place of an operand from what follows; of an option the word after its own,
+    // if that comes next.
+    fn take(&mut self, operand: &str) {
+        let (word, mut rest) = split_word(self.text);
+        let (next, after) = split_word(rest);
+        match operand {
+            "N" => self.name = word,
+            "C" => self.copy = word,
+            "P" => self.path = Some(word),
+            "[K]" => self.number = Some(word),
+            "do" => self.keyword = word,
+            "[at" if word == b"at".as_slice() => {
+                self.path = Some(next);
+                rest = after;
+            }
+            "[within" if word == b"within".as_slice() => {
+                self.number = Some(next);
+                rest = after;
+            }
+            _ => return,
+        }
+        self.text = rest;
+    }
+
     /// Whether the text of the command is a module.
     pub fn is_module(&self) -> bool {
         matches!(self.command, Keyword::Module)
@@ -152,6 +147,7 @@ impl Parts<'_> {
         self.is_term() || self.is_module() || self.is_strategy() || self.is_annotations()
     }
 }
+
 /// What is kept of the commands before.
 #[derive(Clone, Copy)]
 pub struct Past {

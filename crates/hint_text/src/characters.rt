@@ -19,14 +19,8 @@ pub fn count_characters(text: &[u8]) -> u64 {
 
 // The number of bytes at the start that belong to a character that began before.
 fn inside_character(text: &[u8]) -> usize {
-    let mut count = 0usize;
-    for byte in text {
-        if begins_character(*byte) {
-            break;
-        }
-        count = count.saturating_add(1);
-    }
-    count
+    let begins = |byte: &u8| begins_character(*byte);
+    text.iter().position(begins).unwrap_or(text.len())
 }
 
 /// So many bytes at the end, less those of a character that began before.
@@ -49,16 +43,13 @@ pub fn first_characters(text: &[u8], most: usize) -> &[u8] {
 
 /// The character at the place, in UTF-8.
 pub fn character_at(text: &[u8], at: usize) -> &[u8] {
-    let Some((first, rest)) = text.get(at..).unwrap_or(&[]).split_first() else {
-        return &[];
+    let rest = text.get(at..).unwrap_or(&[]);
+    let more = match rest {
+        [] => return &[],
+        [first, ..] if *first < 0x80 => 0,
+        [_, after @ ..] => inside_character(after),
     };
-    let more = if *first < 0x80 {
-        0
-    } else {
-        inside_character(rest)
-    };
-    let end = at.saturating_add(more).saturating_add(1);
-    text.get(at..end).unwrap_or(&[])
+    rest.get(..more.saturating_add(1)).unwrap_or(rest)
 }
 
 /// A place of a text: the number of its line, and what this line has before it and after it.
@@ -83,18 +74,8 @@ pub fn place_of(text: &[u8], first: u64, at: usize) -> Place<'_> {
     Place {
         line,
         before: before.get(start..).unwrap_or(&[]),
-        after: first_line(after),
+        after: after.split(|byte| *byte == b'\n').next().unwrap_or(after),
     }
-}
-
-// The first line, without its line feed.
-fn first_line(text: &[u8]) -> &[u8] {
-    for (number, byte) in text.iter().enumerate() {
-        if *byte == b'\n' {
-            return text.get(..number).unwrap_or(text);
-        }
-    }
-    text
 }
 
 /// Whether the text begins with a byte order mark.

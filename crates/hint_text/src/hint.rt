@@ -18,20 +18,19 @@ const BEFORE: usize = 48;
 // What stands where a line is cut.
 const CUT: &str = "..";
 
-/// Appends a sentence to the hint of an explainer, with each of these in the place of a `{}`. They are
-/// handed on one by one: an array of them at each sentence is dear to prove.
+/// Appends a sentence to a hint, with each of these in the place of a `{}`. They are handed on one by
+/// one: an array of them at each sentence is dear to prove.
+#[macro_export]
 macro_rules! say {
-    ($it:expr; $sentence:expr $(, $fill:expr)*) => {{
+    ($hint:expr; $sentence:expr $(, $fill:expr)*) => {{
         let rest = $sentence;
         $(
             let fill = $fill;
-            let rest = $it.hint.say_up_to(rest, fill);
+            let rest = $hint.say_up_to(rest, fill);
         )*
-        $it.hint.words(rest)
+        $hint.words(rest)
     }};
 }
-
-pub(crate) use say;
 
 /// What stands in a place of a sentence.
 #[derive(Clone, Copy)]
@@ -50,6 +49,12 @@ pub enum Fill<'a> {
     Line(u64),
     /// `line 15, column 31`. Both are counted from 1, a column in characters.
     At(u64, u64),
+}
+
+/// A place of a text whose first line has this number.
+pub fn fill_of<'a>(text: &[u8], first: u64, at: usize) -> Fill<'a> {
+    let place = place_of(text, first, at);
+    Fill::At(place.line, count_characters(place.before).saturating_add(1))
 }
 
 /// The text so far. A growth that is refused is kept in mind until the end.
@@ -71,9 +76,10 @@ impl Hint {
     /// The whole text; `NoMemory` if a growth was refused.
     pub fn into_text(self) -> Result<Vec<u8>, NoMemory> {
         if self.refused {
-            return Err(NoMemory);
+            Err(NoMemory)
+        } else {
+            Ok(self.text)
         }
-        Ok(self.text)
     }
 
     /// Whether nothing was appended.
@@ -98,35 +104,23 @@ impl Hint {
 
     /// Appends what the root of a term with so many children is.
     pub fn root(&mut self, kind: Kind<'_>, count: u64) {
-        match kind {
-            Kind::Integer(value) => {
-                self.words("the integer ");
-                self.integer(value);
-            }
-            Kind::Application(name) if count > 0 => {
-                self.quote(name.bytes());
-                self.words(" of ");
-                self.count(count, "term");
-            }
-            Kind::Application(name) => {
-                self.words(if name.is_quoted() {
-                    "the string "
-                } else {
-                    "the constant "
-                });
-                self.quote(name.bytes());
-            }
-            Kind::List if count == 0 => self.words("the empty list"),
-            Kind::Tuple if count == 0 => self.words("the empty tuple"),
-            Kind::List => {
-                self.words("a list of ");
-                self.count(count, "term");
-            }
-            Kind::Tuple => {
-                self.words("a tuple of ");
-                self.count(count, "term");
-            }
-        }
+        let sentence = match kind {
+            Kind::Integer(_) => "the integer {}",
+            Kind::Application(_) if count > 0 => "{} of {}",
+            Kind::Application(name) if name.is_quoted() => "the string {}",
+            Kind::Application(_) => "the constant {}",
+            Kind::List if count == 0 => "the empty list",
+            Kind::Tuple if count == 0 => "the empty tuple",
+            Kind::List => "a list of {}",
+            Kind::Tuple => "a tuple of {}",
+        };
+        let terms = Fill::Count(count, "term");
+        let first = match kind {
+            Kind::Integer(value) => Fill::Integer(value),
+            Kind::Application(name) => Fill::Quoted(name.bytes()),
+            _ => terms,
+        };
+        say!(self; sentence, first, terms);
     }
 
     fn fill(&mut self, fill: Fill<'_>) {
@@ -135,18 +129,13 @@ impl Hint {
             Fill::Bytes(bytes) => self.bytes(bytes),
             Fill::Quoted(bytes) => self.quote(bytes),
             Fill::Name(name) => self.refused |= print_name(name, &mut self.text).is_err(),
-            Fill::Number(number) => self.number(number),
-            Fill::Integer(value) => self.integer(value),
+            Fill::Number(number) => self.number("", number),
+            Fill::Integer(value) => self.words(Buffer::new().format(value)),
             Fill::Count(number, name) => self.count(number, name),
-            Fill::Line(line) => {
-                self.words("line ");
-                self.number(line);
-            }
+            Fill::Line(line) => self.number("line ", line),
             Fill::At(line, column) => {
-                self.words("line ");
-                self.number(line);
-                self.words(", column ");
-                self.number(column);
+                self.number("line ", line);
+                self.number(", column ", column);
             }
         }
     }
@@ -155,31 +144,21 @@ impl Hint {
         self.refused |= self.text.extend_from_slice(bytes).is_err();
     }
 
-    fn number(&mut self, number: u64) {
-        let mut digits = Buffer::new();
-        self.words(digits.format(number));
-    }
-
-    fn integer(&mut self, value: i64) {
-        if value < 0 {
-            self.words("-");
-        }
-        self.number(value.unsigned_abs());
+    fn number(&mut self, before: &str, number: u64) {
+        self.words(before);
+        self.words(Buffer::new().format(number));
     }
 
     fn count(&mut self, number: u64, name: &str) {
-        self.number(number);
+        let (stem, ending) = match name.strip_suffix("y") {
+            _ if number == 1 => (name, ""),
+            Some(stem) => (stem, "ies"),
+            None => (name, "s"),
+        };
+        self.number("", number);
         self.words(" ");
-        match name.strip_suffix("y") {
-            Some(stem) if number != 1 => {
-                self.words(stem);
-                self.words("ies");
-            }
-            _ => {
-                self.words(name);
-                self.words(if number == 1 { "" } else { "s" });
-            }
-        }
+        self.words(stem);
+        self.words(ending);
     }
 
     fn quote(&mut self, bytes: &[u8]) {

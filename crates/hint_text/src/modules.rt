@@ -56,7 +56,7 @@ pub fn read_modules<'a>(
     Ok(texts)
 }
 
-fn read_module<'a>(
+pub fn read_module<'a>(
     alloc: Global,
     name: &'a [u8],
     text: &'a [u8],
@@ -111,12 +111,8 @@ pub fn read_strategy(alloc: Global, text: &[u8]) -> Result<Text<'_>, NoMemory> {
         tokens,
         definitions,
         roles,
-        module: empty_module(alloc),
+        module: module_of(alloc, &[])?,
     })
-}
-
-fn empty_module(alloc: Global) -> Module {
-    Module::new(Vec::new(alloc), Vec::new(alloc))
 }
 
 /// The module that the text is; an empty one if it is none.
@@ -124,7 +120,7 @@ pub fn module_of(alloc: Global, text: &[u8]) -> Result<Module, NoMemory> {
     match parse_module(alloc, text) {
         Ok(module) => Ok(module),
         Err(ParseFault::Memory) => Err(NoMemory),
-        Err(_) => Ok(empty_module(alloc)),
+        Err(_) => Ok(Module::new(Vec::new(alloc), Vec::new(alloc))),
     }
 }
 
@@ -153,10 +149,7 @@ pub fn token_of(text: &[u8], number: usize) -> (&[u8], usize) {
 
 /// Whether the token of this number is this sign.
 pub fn is_sign(tokens: &[Token], number: usize, sign: Sign) -> bool {
-    match tokens.get(number) {
-        Some(token) => is_mark(token, sign),
-        None => false,
-    }
+    tokens.get(number).is_some_and(|token| is_mark(token, sign))
 }
 
 impl Text<'_> {
@@ -181,21 +174,21 @@ impl Text<'_> {
     /// The variable that the token of this number is, in a pattern.
     pub fn variable_at(&self, number: usize) -> Option<&Name> {
         match self.tokens.get(number) {
-            Some(Token::Ident(name)) if self.is_variable(number) => Some(name),
+            Some(Token::Ident(name))
+                if self.is_in_pattern(number)
+                    && !is_sign(&self.tokens, number.saturating_add(1), Sign::OpenRound) => {
+                Some(name)
+            }
             _ => None,
         }
-    }
-
-    // Whether the name that the token of this number is is a variable.
-    fn is_variable(&self, number: usize) -> bool {
-        self.is_in_pattern(number)
-            && !is_sign(&self.tokens, number.saturating_add(1), Sign::OpenRound)
     }
 
     /// Whether the name is a variable among the tokens from one number to another.
     pub fn has_variable(&self, name: &Name, first: usize, end: usize) -> bool {
         for number in first..end {
-            if self.is_name(number, name) && self.is_variable(number) {
+            if let Some(found) = self.variable_at(number)
+                && found.equals(name)
+            {
                 return true;
             }
         }
@@ -213,9 +206,4 @@ pub fn declaring<'m, 't>(modules: &'m [Text<'t>], name: &Name, arity: u64) -> Op
         }
     }
     None
-}
-
-/// Whether one of the modules declares a constant of this name.
-pub fn have_constant(modules: &[Text<'_>], name: &Name) -> bool {
-    declaring(modules, name, 0).is_some()
 }
