@@ -1,6 +1,5 @@
 //! Failures that an alternative or a next child came after, while that is going on.
 
-use crate::stops::Stop;
 use std::alloc::Global;
 use strategy_syntax::{ResolvedForm as Form, ResolvedStrategy};
 use term_core::NoMemory;
@@ -8,13 +7,13 @@ use term_core::NoMemory;
 // An alternative that took fewer steps failed at its head, which says nothing.
 const FEWEST: u64 = 6;
 
-// What failed, and what has been going on since with so many frames below it.
-#[derive(Drop)]
-struct Cause<'t> {
+/// What failed in a turn, and what has been going on since with so many frames below it.
+#[derive(Clone, Copy)]
+pub struct Cause {
     frames: usize,
-    // The steps of the alternative that failed.
-    steps: u64,
-    stop: Stop<'t>,
+    /// The steps of the alternative that failed.
+    pub steps: u64,
+    pub turn: u64,
 }
 
 // The steps that were left, and whether it is a choice whose condition is only a test.
@@ -26,16 +25,16 @@ struct Begun {
 
 /// The failures that were caught, and after which a choice or a walk goes on, the outermost first.
 #[derive(Drop)]
-pub struct Causes<'t> {
-    caught: Vec<Cause<'t>>,
+pub struct Causes {
+    caught: Vec<Cause>,
     // The strategy that was begun last with so many frames below it.
     begun: Vec<Begun>,
-    // A failure that hasn't been caught yet.
-    failed: Option<Stop<'t>>,
+    // The turn of a failure that hasn't been caught yet.
+    failed: Option<u64>,
 }
 
-impl<'t> Causes<'t> {
-    pub fn new(alloc: Global) -> Causes<'t> {
+impl Causes {
+    pub fn new(alloc: Global) -> Causes {
         Causes {
             caught: Vec::new(alloc),
             begun: Vec::new(alloc),
@@ -43,9 +42,9 @@ impl<'t> Causes<'t> {
         }
     }
 
-    /// Something failed, which will be caught.
-    pub fn fail(&mut self, stop: Stop<'t>) {
-        self.failed = Some(stop);
+    /// Something fails in this turn.
+    pub fn fail(&mut self, turn: u64) {
+        self.failed = Some(turn);
     }
 
     /// A strategy begins with so many frames below it, and so many steps left. If something failed
@@ -56,19 +55,20 @@ impl<'t> Causes<'t> {
         frames: usize,
         left: u64,
     ) -> Result<(), NoMemory> {
-        if let Some(stop) = self.failed.take() {
+        if let Some(turn) = self.failed.take() {
             let steps = match self.begun.get(frames) {
                 Some(before) if !before.is_test => before.left.saturating_sub(left),
                 _ => 0,
             };
-            let cause = self.cause(frames, steps, stop);
-            if steps >= FEWEST {
-                self.keep(cause)?;
-            }
+            self.catch(frames, steps, turn)?;
         }
-        let is_test = is_test(strategy);
+        // A choice between two ways to go on is a test, and `s <+ t` is not.
+        let is_test = match strategy.form() {
+            Form::Guard(parts) => !matches!(parts.1.form(), Form::Id),
+            _ => false,
+        };
         let begun = Begun { left, is_test };
-        for _ in self.begun.len()..frames.saturating_add(1) {
+        for _ in self.begun.len()..=frames {
             self.begun.push(begun)?;
         }
         if let Some(place) = self.begun.get_mut(frames) {
@@ -80,81 +80,59 @@ impl<'t> Causes<'t> {
     /// A strategy succeeds with so many frames below it.
     pub fn end(&mut self, frames: usize) {
         self.failed = None;
-        for _ in 0..self.caught.len() {
-            match self.caught.last() {
-                Some(cause) if cause.frames >= frames => {
-                    let _ = self.caught.pop();
-                }
-                _ => break,
-            }
-        }
+        let _ = self.take(frames);
     }
 
-    /// The failure of the alternative that took most steps, and how many these were.
-    pub fn greatest(&mut self) -> Option<(Stop<'t>, u64)> {
-        let best = self.inner(0)?;
-        let Cause { steps, stop, .. } = best;
-        Some((stop, steps))
+    /// The failure of the alternative that took most steps.
+    pub fn greatest(&self) -> Option<Cause> {
+        self.among(0).0
     }
 
-    // What to keep of a failure: if it came after one within the alternative, that.
-    fn cause(&mut self, frames: usize, steps: u64, stop: Stop<'t>) -> Cause<'t> {
-        let stop = match self.inner(frames.saturating_add(1)) {
-            Some(inner) => {
-                let Cause { stop, .. } = inner;
-                stop
-            }
-            None => stop,
+    // Keeps a failure, or the one within the alternative that it came after. Of the alternatives of one
+    // choice that with most steps is kept.
+    fn catch(&mut self, frames: usize, steps: u64, turn: u64) -> Result<(), NoMemory> {
+        let turn = match self.take(frames.saturating_add(1)) {
+            Some(inner) => inner.turn,
+            None => turn,
         };
-        Cause {
+        let mut cause = Cause {
             frames,
             steps,
-            stop,
-        }
-    }
-
-    // Takes off those with at least so many frames, and returns that with most steps.
-    fn inner(&mut self, frames: usize) -> Option<Cause<'t>> {
-        let count = self.caught.len();
-        let mut first = count;
-        let mut best = count;
-        let mut most = 0u64;
-        for (number, cause) in self.caught.iter().enumerate() {
-            if cause.frames >= frames {
-                first = first.min(number);
-                if cause.steps >= most {
-                    most = cause.steps;
-                    best = number;
-                }
-            }
-        }
-        if best >= self.caught.len() {
-            return None;
-        }
-        let found = self.caught.swap_remove(best);
-        self.caught.truncate(first);
-        Some(found)
-    }
-
-    // Of the alternatives of one choice that with most steps is kept.
-    fn keep(&mut self, cause: Cause<'t>) -> Result<(), NoMemory> {
-        if let Some(last) = self.caught.last_mut()
-            && last.frames == cause.frames
-        {
-            if last.steps < cause.steps {
-                *last = cause;
-            }
+            turn,
+        };
+        if steps < FEWEST {
             return Ok(());
+        }
+        if let Some(other) = self.take(frames)
+            && other.steps >= steps
+        {
+            cause = other;
         }
         self.caught.push(cause)?;
         Ok(())
     }
-}
 
-// Whether it is a choice between two ways to go on, and not between alternatives, as `s <+ t` is.
-fn is_test(strategy: &ResolvedStrategy) -> bool {
-    match strategy.form() {
-        Form::Guard(parts) => !matches!(parts.1.form(), Form::Id),
-        _ => false,
+    // Takes off those with at least so many frames, and returns that with most steps.
+    fn take(&mut self, frames: usize) -> Option<Cause> {
+        let (best, left) = self.among(frames);
+        self.caught.truncate(left);
+        best
+    }
+
+    // Of those with at least so many frames that with most steps, and how many others there are.
+    fn among(&self, frames: usize) -> (Option<Cause>, usize) {
+        let mut best: Option<Cause> = None;
+        let mut left = self.caught.len();
+        for cause in self.caught.iter().rev() {
+            if cause.frames < frames {
+                break;
+            }
+            left = left.saturating_sub(1);
+            match best {
+                Some(more) if more.steps >= cause.steps => {}
+                _ => best = Some(*cause),
+            }
+        }
+        (best, left)
     }
 }

@@ -1,43 +1,21 @@
 //! Runs of commands, run again and looked at.
 
-use crate::about::{About, first_bodies};
-use crate::failing::{say_big, say_failure};
-use crate::looking::{Looking, Observer};
-use crate::sentences::say;
-use crate::spending::{say_shares, say_spent};
-use prim_core::{Meaning, Primitives};
-use script_hints::{Fill, Hint, Parts, Seen, parts_of, read_modules};
+use crate::about::{About, bodies_of};
+use crate::observing::{Kept, Observer, Wanted};
+use crate::spending::sum;
+use crate::telling::{Piece, Teller};
+use hint_text::{Seen, Text, parts_of, read_modules, say};
+use prim_core::Meaning;
 use session_core::{Refusal, Session};
 use std::alloc::Global;
-use strategy_check::{Program, resolve};
+use strategy_check::resolve;
 use strategy_machine::Host;
 use strategy_parse::parse_strategy;
 use strategy_run::plan_patch_seen;
-use strategy_syntax::{Resolved, Strategy};
 use term_core::{Label, MAX_HEIGHT, NoMemory, Term};
 use term_paths::{Path, at, read_number, read_path};
 
-// What is wanted of a run.
-#[derive(Clone, Copy)]
-enum Wanted {
-    Failure,
-    Spending,
-    Big,
-    Profile,
-}
-
-// What a command runs.
-#[derive(Clone, Copy)]
-struct Run<'a> {
-    program: &'a Program,
-    named: &'a Strategy,
-    term: &'a Term,
-    path: &'a Path,
-    steps: u64,
-    wanted: Wanted,
-}
-
-/// At most six lines on why the run of a refused command ended as it did, each with a line feed before
+/// At most eight lines on why the run of a refused command ended as it did, each with a line feed before
 /// it; nothing if the refusal is none of a run. The command is run again, in its session, which is left
 /// as it is.
 ///
@@ -51,7 +29,7 @@ pub fn explain_run<'a, M: Meaning>(
     let wanted = match refusal {
         Refusal::Fails => Wanted::Failure,
         Refusal::Spent => Wanted::Spending,
-        Refusal::Big => Wanted::Big,
+        Refusal::Big => Wanted::End,
         _ => return Ok(Vec::new(alloc)),
     };
     match tree_of(alloc, session, seen) {
@@ -70,7 +48,7 @@ pub fn profile_run<'a, M: Meaning>(
     seen: &Seen<'a>,
     tree: &'a Term,
 ) -> Result<Vec<u8>, NoMemory> {
-    look_at(alloc, session, seen, tree, Wanted::Profile)
+    look_at(alloc, session, seen, tree, Wanted::Steps)
 }
 
 /// The tree that the command applies a strategy to, if it does.
@@ -98,129 +76,122 @@ fn look_at<'a, M: Meaning>(
     wanted: Wanted,
 ) -> Result<Vec<u8>, NoMemory> {
     let parts = parts_of(seen.text);
-    let path = path_of(alloc, &parts);
-    let Some(term) = at(tree, &path) else {
-        return Ok(Vec::new(alloc));
-    };
-    let Some(program) = session.kept_program() else {
-        return Ok(Vec::new(alloc));
-    };
-    let Ok(named) = parse_strategy(alloc, parts.text) else {
-        return Ok(Vec::new(alloc));
-    };
-    let run = Run {
-        program,
-        named: &named,
-        term,
-        path: &path,
-        steps: budget_of(&parts, seen),
-        wanted,
-    };
-    look_at_run(alloc, session, seen, run)
-}
-
-// The path of the command, the root if it has none.
-fn path_of(alloc: Global, parts: &Parts<'_>) -> Path {
-    match read_path(alloc, parts.path.unwrap_or(&[])) {
+    let path = match read_path(alloc, parts.path.unwrap_or(&[])) {
         Ok(path) => path,
         Err(_) => Path::root(alloc),
-    }
-}
-
-fn budget_of(parts: &Parts<'_>, seen: &Seen<'_>) -> u64 {
-    match read_number(parts.number.unwrap_or(&[])) {
-        Some(budget) => budget as u64,
-        None => u64::from(seen.budget),
-    }
-}
-
-fn look_at_run<'a, M: Meaning>(
-    alloc: Global,
-    session: &'a Session<M>,
-    seen: &Seen<'_>,
-    run: Run<'a>,
-) -> Result<Vec<u8>, NoMemory> {
-    let Ok(resolved) = resolve(alloc, run.program, session.primitives(), run.named) else {
+    };
+    let (Some(term), Some(program)) = (at(tree, &path), session.kept_program()) else {
         return Ok(Vec::new(alloc));
     };
-    let definitions = run.program.definitions().len();
-    let wants_end = matches!(run.wanted, Wanted::Spending | Wanted::Big);
-    let looking = Looking::new(alloc, definitions, run.steps, wants_end)?;
-    let looking = run_again(alloc, session.primitives(), run, &resolved, looking)?;
+    // Each of these is held where there is one way out: its drop is proved at each.
+    match parse_strategy(alloc, parts.text) {
+        Ok(named) => match resolve(alloc, program, session.primitives(), &named) {
+            Ok(resolved) => {
+                let about = About {
+                    alloc,
+                    program,
+                    bodies: &[],
+                    named: &named,
+                    resolved: &resolved,
+                    term,
+                    path: path.parts(),
+                };
+                look_at_run(session, seen, about, wanted)
+            }
+            Err(_) => Ok(Vec::new(alloc)),
+        },
+        Err(_) => Ok(Vec::new(alloc)),
+    }
+}
+
+fn look_at_run<M: Meaning>(
+    session: &Session<M>,
+    seen: &Seen<'_>,
+    about: About<'_>,
+    wanted: Wanted,
+) -> Result<Vec<u8>, NoMemory> {
     let history = session.timeline();
     let names = history.module_names()?;
-    let parts = parts_of(seen.text);
-    let modules = read_modules(alloc, history, &names, &parts, false)?;
-    let bodies = first_bodies(alloc, &modules)?;
-    let about = About {
-        alloc,
-        program: run.program,
-        modules: &modules,
+    let modules = read_modules(about.alloc, history, &names, &parts_of(seen.text), false)?;
+    tell(session, seen, about, &modules, wanted)
+}
+
+fn tell<'a, M: Meaning>(
+    session: &Session<M>,
+    seen: &Seen<'_>,
+    about: About<'a>,
+    modules: &'a [Text<'a>],
+    wanted: Wanted,
+) -> Result<Vec<u8>, NoMemory> {
+    let bodies = bodies_of(about.alloc, modules)?;
+    let mut teller = Teller::new(About {
         bodies: &bodies,
-        named: run.named,
-        resolved: &resolved,
-        term: run.term,
-        path: run.path.parts(),
-    };
-    let mut hint = Hint::new(alloc);
-    say_run(&mut hint, about, &looking, seen, run)?;
-    hint.into_text()
+        ..about
+    });
+    let said = tell_run(&mut teller, session, seen, wanted);
+    let text = teller.into_text();
+    said.and(text)
+}
+
+fn tell_run<M: Meaning>(
+    teller: &mut Teller<'_>,
+    session: &Session<M>,
+    seen: &Seen<'_>,
+    wanted: Wanted,
+) -> Result<(), NoMemory> {
+    let kept = watch(session, seen, teller.about, wanted)?;
+    match wanted {
+        Wanted::Spending => teller.say_spent(&kept),
+        Wanted::Steps => {
+            let steps = Piece::Count(sum(&kept.spent), "step");
+            say!(teller; "line {}: {}", Piece::Number(seen.line), steps);
+            teller.say_shares(&kept.spent)
+        }
+        _ => match (&kept.stand, kept.causes.greatest()) {
+            (None, _) => Ok(()),
+            (Some(stand), _) if matches!(wanted, Wanted::End) => teller.say_big(stand),
+            (Some(stand), None) => teller.say_failure(stand, None, 0),
+            (Some(stand), Some(cause)) => {
+                let earlier = watch(session, seen, teller.about, Wanted::FailureIn(cause.turn))?;
+                teller.say_failure(stand, earlier.stand.as_ref(), cause.steps)
+            }
+        },
+    }
 }
 
 // Runs it again, and returns what is kept of that.
-fn run_again<'t, M: Meaning>(
-    alloc: Global,
-    primitives: &'t Primitives<M>,
-    run: Run<'t>,
-    resolved: &'t Resolved,
-    looking: Looking<'t>,
-) -> Result<Looking<'t>, NoMemory> {
-    let level = run.path.len() as u64;
-    let Some(room) = MAX_HEIGHT.checked_sub(level) else {
-        return Ok(looking);
+fn watch<'t, M: Meaning>(
+    session: &'t Session<M>,
+    seen: &Seen<'_>,
+    about: About<'t>,
+    wanted: Wanted,
+) -> Result<Kept<'t>, NoMemory> {
+    let steps = match read_number(parts_of(seen.text).number.unwrap_or(&[])) {
+        Some(budget) => budget as u64,
+        None => u64::from(seen.budget),
     };
-    if run.term.height() > room {
-        return Ok(looking);
-    }
+    let (program, primitives, term) = (about.program, session.primitives(), about.term);
+    let definitions = program.definitions();
+    let room = session.limits().max_terms;
     let host = Host {
-        definitions: run.program.definitions(),
+        definitions,
         primitives,
+        room,
     };
-    let mut observer = Observer {
-        host,
-        kept: looking,
-    };
-    let (program, steps) = (run.program, run.steps);
-    plan_patch_seen(
-        alloc,
-        program,
-        primitives,
-        run.term,
-        level,
-        resolved,
-        steps,
-        &mut observer,
-    )?;
+    let kept = Kept::new(about, wanted, steps)?;
+    let mut observer = Observer { host, kept };
+    let level = about.path.len() as u64;
+    if let Some(most) = MAX_HEIGHT.checked_sub(level)
+        && term.height() <= most
+    {
+        let (alloc, strategy, look) = (about.alloc, about.resolved, &mut observer);
+        let ended = plan_patch_seen(
+            alloc, program, primitives, term, level, room, strategy, steps, look,
+        );
+        if ended.is_err() && !observer.kept.is_complete() {
+            return Err(NoMemory);
+        }
+    }
     let Observer { kept, .. } = observer;
     Ok(kept)
-}
-
-fn say_run(
-    hint: &mut Hint,
-    about: About<'_>,
-    looking: &Looking<'_>,
-    seen: &Seen<'_>,
-    run: Run<'_>,
-) -> Result<(), NoMemory> {
-    match (run.wanted, &looking.end) {
-        (Wanted::Failure, _) => say_failure(hint, about, looking),
-        (Wanted::Big, Some(stand)) => say_big(hint, about, stand),
-        (Wanted::Spending, _) => say_spent(hint, about, looking, run.term.size()),
-        (Wanted::Profile, _) => {
-            let steps = Fill::Count(looking.taken(), "step");
-            say!(hint; "{}: {}", Fill::Line(seen.line), steps);
-            say_shares(hint, about, looking)
-        }
-        _ => Ok(()),
-    }
 }

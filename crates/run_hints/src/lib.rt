@@ -2,17 +2,15 @@
 #![tactic(auto)]
 
 mod about;
+mod alternatives;
 mod causes;
-mod choices;
 mod explain;
 mod failing;
-mod looking;
-mod misses;
-mod nodes;
+mod finding;
+mod matching;
+mod observing;
 mod printing;
-mod same;
-mod sentences;
 mod spending;
-mod stops;
+mod telling;
 
 pub use explain::{explain_run, profile_run, tree_of};

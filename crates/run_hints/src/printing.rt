@@ -1,282 +1,81 @@
-//! Short texts of patterns, strategies and terms.
+//! Short texts of patterns and strategies.
 
-use aterm_text::print_name;
-use itoa::Buffer;
+use hint_text::{Fill, Hint, say};
 use std::alloc::Global;
 use strategy_syntax::{Head, Pattern, PatternForm, Strategy, StrategyForm};
-use term_core::{Kind, Name, NoMemory, Term};
+use term_core::NoMemory;
 
-// The most bytes that are wanted, and the most pieces that are looked through.
-const WANTED: usize = 100;
+/// How deep patterns and strategies are followed. A text has no more tokens.
+pub const DEEPEST: usize = 4_000;
 
-const FOLLOWED: usize = 1_000;
-
-// What is to be printed.
-#[derive(Clone, Copy)]
-enum Piece<'a> {
-    Words(&'static str),
-    Name(&'a Name),
-    Number(u64),
-    Pattern(&'a Pattern),
-    Strategy(&'a Strategy),
-    Term(&'a Term),
-}
-
-#[derive(Drop)]
-struct Printer<'a> {
-    // What comes next is on top.
-    pieces: Vec<Piece<'a>>,
-    text: Vec<u8>,
-}
-
-/// The text of a pattern, or so much of it that it is longer than what is shown.
+/// The text of a pattern.
 pub fn pattern_text(alloc: Global, pattern: &Pattern) -> Result<Vec<u8>, NoMemory> {
-    text_of(alloc, Piece::Pattern(pattern))
+    let mut text = Hint::new(alloc);
+    add_pattern(&mut text, pattern, DEEPEST);
+    text.into_text()
 }
 
-/// The text of a strategy, in the same way.
+/// The front of the text of a strategy, with `..` for what follows and for parts in brackets.
 pub fn strategy_text(alloc: Global, strategy: &Strategy) -> Result<Vec<u8>, NoMemory> {
-    text_of(alloc, Piece::Strategy(strategy))
+    let mut text = Hint::new(alloc);
+    add_strategy(&mut text, strategy, DEEPEST);
+    text.into_text()
 }
 
-/// The text of a term, in the same way.
-pub fn term_text(alloc: Global, term: &Term) -> Result<Vec<u8>, NoMemory> {
-    text_of(alloc, Piece::Term(term))
-}
-
-fn text_of(alloc: Global, piece: Piece<'_>) -> Result<Vec<u8>, NoMemory> {
-    let mut printer = Printer {
-        pieces: Vec::new(alloc),
-        text: Vec::new(alloc),
+#[cycle(pattern)]
+fn add_pattern(text: &mut Hint, pattern: &Pattern, deep: usize) {
+    let Some(deep) = deep.checked_sub(1) else {
+        return;
     };
-    printer.add(piece)?;
-    for _ in 0..FOLLOWED {
-        if printer.text.len() > WANTED {
-            break;
+    match pattern.form() {
+        PatternForm::Wildcard => text.words("_"),
+        PatternForm::Variable(name) => say!(text; "{}", Fill::Name(name)),
+        PatternForm::At(name, inner) => {
+            say!(text; "{}@", Fill::Name(name));
+            add_pattern(text, inner, deep);
         }
-        let Some(piece) = printer.pieces.pop() else {
-            break;
-        };
-        printer.print(piece)?;
+        PatternForm::Integer(value) => say!(text; "{}", Fill::Integer(*value)),
+        PatternForm::Compound(head, parts) => {
+            add_opening(text, head, parts.len());
+            add_patterns(text, parts, deep);
+            text.words(closing(head, parts.len()));
+        }
+        PatternForm::WithTail(parts, tail) => {
+            text.words("[");
+            add_patterns(text, parts, deep);
+            text.words("|");
+            add_pattern(text, tail, deep);
+            text.words("]");
+        }
+        PatternForm::Annotated(inner, annotations) => {
+            add_pattern(text, inner, deep);
+            text.words("{");
+            add_patterns(text, annotations, deep);
+            text.words("}");
+        }
     }
-    let Printer { text, .. } = printer;
-    Ok(text)
 }
 
-impl<'a> Printer<'a> {
-    fn add(&mut self, piece: Piece<'a>) -> Result<(), NoMemory> {
-        self.pieces.push(piece)?;
-        Ok(())
-    }
-
-    fn words(&mut self, words: &'static str) -> Result<(), NoMemory> {
-        self.add(Piece::Words(words))
-    }
-
-    fn print(&mut self, piece: Piece<'a>) -> Result<(), NoMemory> {
-        match piece {
-            Piece::Words(words) => self.text.extend_from_slice(words.as_bytes())?,
-            Piece::Name(name) => print_name(name, &mut self.text)?,
-            Piece::Number(number) => self.number(number)?,
-            Piece::Pattern(pattern) => self.pattern(pattern)?,
-            Piece::Strategy(strategy) => self.strategy(strategy)?,
-            Piece::Term(term) => self.term(term)?,
+#[cycle(pattern)]
+fn add_patterns(text: &mut Hint, patterns: &[Pattern], deep: usize) {
+    let mut is_first = true;
+    for pattern in patterns {
+        if !is_first {
+            text.words(",");
         }
-        Ok(())
+        add_pattern(text, pattern, deep);
+        is_first = false;
     }
+}
 
-    fn number(&mut self, number: u64) -> Result<(), NoMemory> {
-        let mut digits = Buffer::new();
-        self.text
-            .extend_from_slice(digits.format(number).as_bytes())?;
-        Ok(())
-    }
-
-    fn integer(&mut self, value: i64) -> Result<(), NoMemory> {
-        if value < 0 {
-            self.text.push(b'-')?;
+fn add_opening(text: &mut Hint, head: &Head, count: usize) {
+    match head {
+        Head::Application(name) if count == 0 && name.is_quoted() => {
+            say!(text; "{}", Fill::Name(name));
         }
-        self.number(value.unsigned_abs())
-    }
-
-    // What follows is added from its end.
-
-    fn patterns(&mut self, patterns: &'a [Pattern]) -> Result<(), NoMemory> {
-        let mut is_last = true;
-        for pattern in patterns.iter().rev() {
-            if !is_last {
-                self.words(",")?;
-            }
-            self.add(Piece::Pattern(pattern))?;
-            is_last = false;
-        }
-        Ok(())
-    }
-
-    fn terms(&mut self, terms: &'a [Term]) -> Result<(), NoMemory> {
-        let mut is_last = true;
-        for term in terms.iter().rev() {
-            if !is_last {
-                self.words(",")?;
-            }
-            self.add(Piece::Term(term))?;
-            is_last = false;
-        }
-        Ok(())
-    }
-
-    fn pattern(&mut self, pattern: &'a Pattern) -> Result<(), NoMemory> {
-        match pattern.form() {
-            PatternForm::Wildcard => self.words("_"),
-            PatternForm::Variable(name) => self.add(Piece::Name(name)),
-            PatternForm::At(name, inner) => {
-                self.add(Piece::Pattern(inner))?;
-                self.words("@")?;
-                self.add(Piece::Name(name))
-            }
-            PatternForm::Integer(value) => self.integer(*value),
-            PatternForm::Compound(head, parts) => {
-                self.words(closing(head, parts.len()))?;
-                self.patterns(parts)?;
-                self.opening(head, parts.len())
-            }
-            PatternForm::WithTail(parts, tail) => {
-                self.words("]")?;
-                self.add(Piece::Pattern(tail))?;
-                self.words("|")?;
-                self.patterns(parts)?;
-                self.words("[")
-            }
-            PatternForm::Annotated(inner, annotations) => {
-                self.words("}")?;
-                self.patterns(annotations)?;
-                self.words("{")?;
-                self.add(Piece::Pattern(inner))
-            }
-        }
-    }
-
-    fn opening(&mut self, head: &'a Head, count: usize) -> Result<(), NoMemory> {
-        match head {
-            Head::Application(name) => {
-                if count > 0 || !name.is_quoted() {
-                    self.words("(")?;
-                }
-                self.add(Piece::Name(name))
-            }
-            Head::List => self.words("["),
-            Head::Tuple => self.words("("),
-        }
-    }
-
-    // Of annotations nothing is printed.
-    fn term(&mut self, term: &'a Term) -> Result<(), NoMemory> {
-        let count = term.child_count();
-        match term.kind() {
-            Kind::Integer(value) => self.integer(value),
-            Kind::Application(name) => {
-                if count > 0 {
-                    self.words(")")?;
-                    self.terms(term.children())?;
-                    self.words("(")?;
-                }
-                self.add(Piece::Name(name))
-            }
-            Kind::List => {
-                self.words("]")?;
-                self.terms(term.children())?;
-                self.words("[")
-            }
-            Kind::Tuple => {
-                self.words(")")?;
-                self.terms(term.children())?;
-                self.words("(")
-            }
-        }
-    }
-
-    // ---- strategies
-
-    // Of a strategy in others only the front is printed, and `..` for its parts.
-    fn strategy(&mut self, strategy: &'a Strategy) -> Result<(), NoMemory> {
-        match strategy.form() {
-            StrategyForm::Id => self.words("id"),
-            StrategyForm::Fail => self.words("fail"),
-            StrategyForm::Match(pattern) => self.before(pattern, "?"),
-            StrategyForm::Build(pattern) => self.before(pattern, "!"),
-            StrategyForm::Seq(parts) => self.front(&parts.0, "; .."),
-            StrategyForm::Guard(parts) => match (parts.1.form(), parts.2.form()) {
-                (StrategyForm::Id, _) => self.front(&parts.0, " <+ .."),
-                (StrategyForm::Fail, StrategyForm::Id) => {
-                    self.front(&parts.0, ")")?;
-                    self.words("not(")
-                }
-                (StrategyForm::Fail, _) => self.front(&parts.0, " < fail + .."),
-                _ => self.front(&parts.0, " < .. + .."),
-            },
-            StrategyForm::Scope(_, inside) => match rule_of(inside) {
-                Some((left, right)) => {
-                    self.add(Piece::Pattern(right))?;
-                    self.words(" -> ")?;
-                    self.add(Piece::Pattern(left))
-                }
-                None => self.add(Piece::Strategy(inside)),
-            },
-            StrategyForm::Test(_) => self.words("where(..)"),
-            StrategyForm::All(_) => self.words("all(..)"),
-            StrategyForm::One(_) => self.words("one(..)"),
-            StrategyForm::Some(_) => self.words("some(..)"),
-            _ => self.named(strategy),
-        }
-    }
-
-    fn before(&mut self, pattern: &'a Pattern, sign: &'static str) -> Result<(), NoMemory> {
-        self.add(Piece::Pattern(pattern))?;
-        self.words(sign)
-    }
-
-    fn front(&mut self, first: &'a Strategy, rest: &'static str) -> Result<(), NoMemory> {
-        self.words(rest)?;
-        self.add(Piece::Strategy(first))
-    }
-
-    // Forms with a name or a number before their parts.
-    fn named(&mut self, strategy: &'a Strategy) -> Result<(), NoMemory> {
-        match strategy.form() {
-            StrategyForm::Use(name, strategies, patterns) => {
-                if !patterns.is_empty() {
-                    self.words(")")?;
-                    self.patterns(patterns)?;
-                    self.words(if strategies.is_empty() { "(|" } else { "(..|" })?;
-                } else if !strategies.is_empty() {
-                    self.words("(..)")?;
-                }
-                self.add(Piece::Name(name))
-            }
-            StrategyForm::Congruence(head, parts) => {
-                self.words(closing(head, parts.len()))?;
-                self.words(if parts.is_empty() { "" } else { ".." })?;
-                self.opening(head, parts.len())
-            }
-            StrategyForm::TailCongruence(_, _) => self.words("[..|..]"),
-            StrategyForm::Child(number, _) => {
-                self.words("(..)")?;
-                self.add(Piece::Number(*number as u64))
-            }
-            StrategyForm::Rec(name, _) => {
-                self.words("(..)")?;
-                self.add(Piece::Name(name))?;
-                self.words("rec ")
-            }
-            StrategyForm::Prim(name, patterns) => {
-                self.words(")")?;
-                self.patterns(patterns)?;
-                self.words(if patterns.is_empty() { "" } else { "," })?;
-                self.add(Piece::Name(name))?;
-                self.words("prim(")
-            }
-            _ => Ok(()),
-        }
+        Head::Application(name) => say!(text; "{}(", Fill::Name(name)),
+        Head::List => text.words("["),
+        Head::Tuple => text.words("("),
     }
 }
 
@@ -288,13 +87,83 @@ fn closing(head: &Head, count: usize) -> &'static str {
     }
 }
 
-/// The sides of a rule without a condition.
-pub fn rule_of(strategy: &Strategy) -> Option<(&Pattern, &Pattern)> {
-    let StrategyForm::Seq(parts) = strategy.form() else {
-        return None;
+fn add_strategy(text: &mut Hint, strategy: &Strategy, deep: usize) {
+    let Some(deep) = deep.checked_sub(1) else {
+        return;
     };
-    match (parts.0.form(), parts.1.form()) {
-        (StrategyForm::Match(left), StrategyForm::Build(right)) => Some((left, right)),
-        _ => None,
+    match strategy.form() {
+        StrategyForm::Id => text.words("id"),
+        StrategyForm::Fail => text.words("fail"),
+        StrategyForm::Match(pattern) => {
+            text.words("?");
+            add_pattern(text, pattern, DEEPEST);
+        }
+        StrategyForm::Build(pattern) => {
+            text.words("!");
+            add_pattern(text, pattern, DEEPEST);
+        }
+        StrategyForm::Seq(parts) => {
+            add_strategy(text, &parts.0, deep);
+            text.words("; ..");
+        }
+        StrategyForm::Guard(parts) => {
+            let (before, after) = match (parts.1.form(), parts.2.form()) {
+                (StrategyForm::Id, _) => ("", " <+ .."),
+                (StrategyForm::Fail, StrategyForm::Id) => ("not(", ")"),
+                (StrategyForm::Fail, _) => ("", " < fail + .."),
+                _ => ("", " < .. + .."),
+            };
+            text.words(before);
+            add_strategy(text, &parts.0, deep);
+            text.words(after);
+        }
+        StrategyForm::Scope(_, inside) => match rule_of(inside) {
+            Some((left, right)) => {
+                add_pattern(text, left, DEEPEST);
+                text.words(" -> ");
+                add_pattern(text, right, DEEPEST);
+            }
+            None => add_strategy(text, inside, deep),
+        },
+        StrategyForm::Test(_) => text.words("where(..)"),
+        StrategyForm::All(_) => text.words("all(..)"),
+        StrategyForm::One(_) => text.words("one(..)"),
+        StrategyForm::Some(_) => text.words("some(..)"),
+        StrategyForm::TailCongruence(_, _) => text.words("[..|..]"),
+        StrategyForm::Child(number, _) => say!(text; "{}(..)", Fill::Number(*number as u64)),
+        StrategyForm::Rec(name, _) => say!(text; "rec {}(..)", Fill::Name(name)),
+        StrategyForm::Congruence(head, parts) => {
+            add_opening(text, head, parts.len());
+            text.words(if parts.is_empty() { "" } else { ".." });
+            text.words(closing(head, parts.len()));
+        }
+        StrategyForm::Use(name, strategies, patterns) => {
+            let strategies = if strategies.is_empty() { "" } else { ".." };
+            say!(text; "{}", Fill::Name(name));
+            if !patterns.is_empty() {
+                say!(text; "({}|", Fill::Words(strategies));
+                add_patterns(text, patterns, DEEPEST);
+                text.words(")");
+            } else if !strategies.is_empty() {
+                text.words("(..)");
+            }
+        }
+        StrategyForm::Prim(name, patterns) => {
+            say!(text; "prim({}", Fill::Name(name));
+            text.words(if patterns.is_empty() { "" } else { "," });
+            add_patterns(text, patterns, DEEPEST);
+            text.words(")");
+        }
     }
+}
+
+/// The sides of a rule without a condition.
+fn rule_of(strategy: &Strategy) -> Option<(&Pattern, &Pattern)> {
+    if let StrategyForm::Seq(parts) = strategy.form()
+        && let StrategyForm::Match(left) = parts.0.form()
+        && let StrategyForm::Build(right) = parts.1.form()
+    {
+        return Some((left, right));
+    }
+    None
 }

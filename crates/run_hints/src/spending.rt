@@ -1,12 +1,8 @@
 //! Where the steps of a run went.
 
-use crate::about::About;
-use crate::failing::{say_calls, say_spot};
-use crate::looking::Looking;
-use crate::printing::term_text;
-use crate::sentences::say;
-use crate::stops::Stand;
-use script_hints::{Fill, Hint};
+use crate::observing::Kept;
+use crate::telling::{Piece, Teller};
+use hint_text::say;
 use term_core::NoMemory;
 
 // How many definitions are listed with their shares, and how many of those that repeat.
@@ -17,147 +13,107 @@ const REPEATED: usize = 8;
 // The longest part of the last calls that is looked for again.
 const PERIOD: usize = 200;
 
-/// Says how the steps of a run that didn't end were spent, and where it stood.
-pub fn say_spent(
-    hint: &mut Hint,
-    about: About<'_>,
-    looking: &Looking<'_>,
-    size: u64,
-) -> Result<(), NoMemory> {
-    say_shares(hint, about, looking)?;
-    if let Some(stand) = &looking.end {
-        say_end(hint, about, looking, stand, size)?;
-        let said = say_repeated(hint, about, looking);
-        if !said {
-            say_calls(hint, about, &stand.calls)?;
-        }
-    }
-    Ok(())
-}
-
-/// Says which definitions took most steps of their own.
-pub fn say_shares(
-    hint: &mut Hint,
-    about: About<'_>,
-    looking: &Looking<'_>,
-) -> Result<(), NoMemory> {
-    let mut spent = Vec::from_slice(about.alloc, &looking.spent)?;
-    let command = spent.len().saturating_sub(1);
-    let total = looking.taken();
-    let mut separator = "\n    the steps: ";
-    for _ in 0..LISTED {
-        let number = greatest(&spent);
-        let Some(steps) = spent.get_mut(number) else {
-            break;
+impl Teller<'_> {
+    /// Says how the steps of a run that didn't end were spent, and where it stood.
+    pub fn say_spent(&mut self, kept: &Kept<'_>) -> Result<(), NoMemory> {
+        self.say_shares(&kept.spent)?;
+        let Some(stand) = &kept.stand else {
+            return Ok(());
         };
-        if *steps == 0 {
-            break;
+        self.words("\n    it stopped at ");
+        self.say_spot(&stand.spot);
+        say!(self; " with {}", Piece::Term(&stand.focus));
+        let size = self.about.term.size();
+        let (now, before) = (Piece::Count(kept.size, "term"), Piece::Number(size));
+        if kept.size > size {
+            say!(self; "; the whole has grown from {} to {}", before, now);
+        } else if kept.size < size {
+            say!(self; "; the whole has shrunk from {} to {}", before, now);
         }
-        say!(hint; "{}", Fill::Words(separator));
-        match about.name(number) {
-            Some(name) if number < command => say!(hint; "{}", Fill::Quoted(name.bytes())),
-            _ => say!(hint; "the command"),
+        match repeated(&kept.recent) {
+            Some(calls) => self.say_repeated(calls),
+            None => self.say_calls(&stand.calls)?,
         }
-        let share = steps.saturating_mul(100).checked_div(total).unwrap_or(0);
-        say!(hint; " {} % ({})", Fill::Number(share), Fill::Number(*steps));
-        *steps = 0;
-        separator = ", ";
+        Ok(())
     }
-    Ok(())
+
+    /// Says which definitions took most steps of their own. Those of the command come last.
+    pub fn say_shares(&mut self, spent: &[u64]) -> Result<(), NoMemory> {
+        let mut left = Vec::from_slice(self.about.alloc, spent)?;
+        let total = sum(spent);
+        let mut separator = "\n    the steps: ";
+        for _ in 0..LISTED {
+            let number = greatest(&left);
+            let Some(steps) = left.get_mut(number) else {
+                break;
+            };
+            let own = *steps;
+            if own == 0 {
+                break;
+            }
+            *steps = 0;
+            self.words(separator);
+            self.say_definition(number);
+            let share = own.saturating_mul(100).checked_div(total).unwrap_or(0);
+            say!(self; " {} % ({})", Piece::Number(share), Piece::Number(own));
+            separator = ", ";
+        }
+        Ok(())
+    }
+
+    // Says which definitions are called, each once.
+    fn say_repeated(&mut self, calls: &[usize]) {
+        let mut separator = "\n    the calls repeat: ";
+        let mut said = 0usize;
+        for (number, definition) in calls.iter().enumerate() {
+            let before = calls.get(..number).unwrap_or(&[]);
+            if said <= REPEATED && !before.contains(definition) {
+                self.words(separator);
+                if said == REPEATED {
+                    self.words("..");
+                } else {
+                    self.say_definition(*definition);
+                }
+                separator = ", ";
+                said = said.saturating_add(1);
+            }
+        }
+    }
 }
 
+/// The sum of these numbers.
+pub fn sum(numbers: &[u64]) -> u64 {
+    let mut sum = 0u64;
+    for number in numbers {
+        sum = sum.saturating_add(*number);
+    }
+    sum
+}
+
+// The index of the greatest number, the first of several.
 fn greatest(numbers: &[u64]) -> usize {
     let mut best = 0usize;
     let mut most = 0u64;
-    for (place, number) in numbers.iter().enumerate() {
+    for (index, number) in numbers.iter().enumerate() {
         if *number > most {
             most = *number;
-            best = place;
+            best = index;
         }
     }
     best
 }
 
-fn say_end(
-    hint: &mut Hint,
-    about: About<'_>,
-    looking: &Looking<'_>,
-    stand: &Stand<'_>,
-    size: u64,
-) -> Result<(), NoMemory> {
-    let focus = term_text(about.alloc, &stand.focus)?;
-    say!(hint; "\n    it stopped at ");
-    say_spot(hint, about, &stand.spot)?;
-    say!(hint; " with {}", Fill::Quoted(focus.as_slice()));
-    let (now, before) = (Fill::Count(looking.size, "term"), Fill::Number(size));
-    if looking.size > size {
-        say!(hint; "; the whole has grown from {} to {}", before, now);
-    } else if looking.size < size {
-        say!(hint; "; the whole has shrunk from {} to {}", before, now);
-    }
-    Ok(())
-}
-
-// ---- what repeats
-
-// Says which definitions the last calls repeat. Returns whether they do.
-fn say_repeated(hint: &mut Hint, about: About<'_>, looking: &Looking<'_>) -> bool {
-    let period = shortest_period(looking);
-    if period == 0 {
-        return false;
-    }
-    say!(hint; "\n    the calls repeat: ");
-    let mut separator = "";
-    let mut said = 0usize;
-    for back in (0..period).rev() {
-        if let Some(definition) = looking.called_before(back)
-            && is_first(looking, definition, back, period)
-            && let Some(name) = about.name(definition)
-        {
-            if said == REPEATED {
-                say!(hint; ", ..");
-                return true;
-            }
-            say!(hint; "{}{}", Fill::Words(separator), Fill::Quoted(name.bytes()));
-            separator = ", ";
-            said = said.saturating_add(1);
-        }
-    }
-    true
-}
-
-// Whether no call before this one within the period is of the definition.
-fn is_first(looking: &Looking<'_>, definition: usize, back: usize, period: usize) -> bool {
-    for earlier in back.saturating_add(1)..period {
-        if looking.called_before(earlier) == Some(definition) {
-            return false;
-        }
-    }
-    true
-}
-
-// The length of the shortest part that the last calls repeat; 0 if they repeat none.
-fn shortest_period(looking: &Looking<'_>) -> usize {
+// The shortest part that these calls repeat to the end, if they repeat one.
+fn repeated(calls: &[usize]) -> Option<&[usize]> {
     for period in 1..PERIOD {
-        if repeats(looking, period) {
-            return period;
+        let before = calls.len().checked_sub(period)?;
+        if before < period {
+            return None;
+        }
+        let last = calls.get(before..)?;
+        if calls.get(..before)? == calls.get(period..)? {
+            return Some(last);
         }
     }
-    0
-}
-
-fn repeats(looking: &Looking<'_>, period: usize) -> bool {
-    let twice = period.saturating_mul(2);
-    if looking.called_before(twice.saturating_sub(1)).is_none() {
-        return false;
-    }
-    for back in 0..1_000 {
-        let Some(earlier) = looking.called_before(period.saturating_add(back)) else {
-            break;
-        };
-        if looking.called_before(back) != Some(earlier) {
-            return false;
-        }
-    }
-    true
+    None
 }

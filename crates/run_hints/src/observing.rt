@@ -1,0 +1,464 @@
+//! What is kept of a run while it goes: the open calls, where the steps went, and where it failed.
+
+use crate::about::{About, Place};
+use crate::causes::Causes;
+use crate::finding::Node;
+use crate::printing::DEEPEST;
+use prim_core::Meaning;
+use strategy_machine::{Host, Machine, Next, Spot};
+use strategy_run::Look;
+use strategy_syntax::{
+    Pattern, PatternForm, PlaceForm, ResolvedForm as Form, ResolvedStrategy, StrategyForm as Named,
+};
+use term_core::{Kind, Name, NoMemory, Term};
+
+// The most calls that are kept where each took the place of the one before.
+const AT_ONE_DEPTH: usize = 9;
+
+// With so few steps left calls are kept.
+const LAST: u64 = 5_000;
+
+// The most variables whose terms are kept.
+const BOUND: usize = 16;
+
+/// What is wanted of a run.
+#[derive(Clone, Copy)]
+pub enum Wanted {
+    /// The last failure that nothing caught, and what failed before that.
+    Failure,
+    /// The failure in this turn.
+    FailureIn(u64),
+    /// The steps of each definition, the last calls, and where it stood at the end.
+    Spending,
+    /// Where it stood at the end.
+    End,
+    /// The steps of each definition.
+    Steps,
+}
+
+/// A call that is open: the definition, by its number, and the strategy that calls it.
+#[derive(Clone, Copy)]
+pub struct Called<'t> {
+    pub definition: usize,
+    pub from: &'t ResolvedStrategy,
+    /// How often it was called in its own place.
+    pub times: u64,
+    // The number of frames below it.
+    depth: usize,
+}
+
+/// A variable with the term that it is bound to.
+#[derive(Drop)]
+pub struct Bound<'t> {
+    pub name: &'t Name,
+    pub term: Term,
+}
+
+/// Where a run stood: the strategy that was begun last, with its place, the open calls, the outermost
+/// first, where the focus was, and the focus.
+#[derive(Drop)]
+pub struct Stand<'t> {
+    pub strategy: &'t ResolvedStrategy,
+    pub place: Option<Place<'t>>,
+    pub calls: Vec<Called<'t>>,
+    pub spot: Spot,
+    pub focus: Term,
+    /// The variables of what was matched or built, from left to right, that were bound.
+    pub bound: Vec<Bound<'t>>,
+    /// Whether the strategy succeeded with the focus, which is no list, for the rest of one.
+    pub is_rest: bool,
+}
+
+// A strategy that was begun, in its scope.
+#[derive(Clone, Copy)]
+struct Begun<'t> {
+    strategy: &'t ResolvedStrategy,
+    scope: usize,
+    // How many frames were below it, and how many edits before it.
+    frames: usize,
+    edits: usize,
+}
+
+/// What is kept of a run.
+#[derive(Drop)]
+pub struct Kept<'t> {
+    about: About<'t>,
+    wanted: Wanted,
+    turn: u64,
+    calls: Vec<Called<'t>>,
+    begun: Option<Begun<'t>>,
+    // What was begun last, if it has succeeded since.
+    succeeded: Option<Begun<'t>>,
+    left: u64,
+    /// The steps of each definition, by its number, and last those of the command.
+    pub spent: Vec<u64>,
+    /// The definitions that were called last, in order.
+    pub recent: Vec<usize>,
+    pub causes: Causes,
+    /// Where the run stood at the failure or the end that is wanted.
+    pub stand: Option<Stand<'t>>,
+    /// The size of the whole term at the end.
+    pub size: u64,
+}
+
+impl<'t> Kept<'t> {
+    /// What is kept before a run of so many steps.
+    pub fn new(about: About<'t>, wanted: Wanted, steps: u64) -> Result<Kept<'t>, NoMemory> {
+        let alloc = about.alloc;
+        let mut spent = Vec::new(alloc);
+        for _ in 0..=about.program.definitions().len() {
+            spent.push(0)?;
+        }
+        Ok(Kept {
+            about,
+            wanted,
+            turn: 0,
+            calls: Vec::new(alloc),
+            begun: None,
+            succeeded: None,
+            left: steps,
+            spent,
+            recent: Vec::new(alloc),
+            causes: Causes::new(alloc),
+            stand: None,
+            size: 0,
+        })
+    }
+
+    fn before_turn<M: Meaning>(
+        &mut self,
+        host: &Host<'t, M>,
+        machine: &Machine<'t>,
+    ) -> Result<(), NoMemory> {
+        let begun = self.begun.take();
+        let frames = machine.frames.len();
+        self.turn = self.turn.saturating_add(1);
+        if let Wanted::Spending | Wanted::Steps = self.wanted {
+            self.charge(begun, machine, machine.steps)?;
+        }
+        match machine.next {
+            Next::Begin(strategy, scope) => {
+                if let Wanted::Failure = self.wanted {
+                    self.causes.begin(strategy, frames, machine.steps)?;
+                }
+                return self.begin(host, machine, strategy, scope);
+            }
+            Next::Done => {
+                self.succeeded = begun.or(self.succeeded);
+                self.causes.end(frames);
+            }
+            Next::Failed => self.fail(begun, machine)?,
+        }
+        // the calls end whose answer this is
+        let mut open = self.calls.len();
+        for call in self.calls.iter().rev() {
+            if call.depth < frames {
+                break;
+            }
+            open = open.saturating_sub(1);
+        }
+        self.calls.truncate(open);
+        Ok(())
+    }
+
+    fn at_end(&mut self, machine: &Machine<'t>) -> Result<(), NoMemory> {
+        let begun = self.begun;
+        match self.wanted {
+            Wanted::Failure | Wanted::FailureIn(_) => return Ok(()),
+            Wanted::Steps => return self.charge(begun, machine, machine.steps),
+            // the steps that are left didn't suffice for the last turn
+            Wanted::Spending => self.charge(begun, machine, 0)?,
+            Wanted::End => {}
+        }
+        if let Some(begun) = begun {
+            let stand = self.stand(machine, begun, false)?;
+            let around = machine.frames.size_around(self.about.alloc)?;
+            self.size = around.saturating_add(stand.focus.size());
+            self.stand = Some(stand);
+        }
+        Ok(())
+    }
+
+    // ---- steps
+
+    // Counts the steps down to so many for the innermost call, or for a definition that was tried at
+    // once.
+    fn charge(
+        &mut self,
+        begun: Option<Begun<'t>>,
+        machine: &Machine<'t>,
+        left: u64,
+    ) -> Result<(), NoMemory> {
+        let taken = self.left.saturating_sub(left);
+        self.left = left;
+        let mut number = match self.calls.last() {
+            Some(call) => call.definition,
+            None => self.spent.len().saturating_sub(1),
+        };
+        if let Some(begun) = begun
+            && let Some(definition) = tried_at_once(begun, machine)
+        {
+            number = definition;
+            if machine.trail.count > begun.edits {
+                self.note(definition, left)?;
+            }
+        }
+        if let Some(spent) = self.spent.get_mut(number) {
+            *spent = spent.saturating_add(taken);
+        }
+        Ok(())
+    }
+
+    // ---- calls
+
+    // Keeps the definition as the last that was called.
+    fn note(&mut self, definition: usize, left: u64) -> Result<(), NoMemory> {
+        if let Wanted::Spending = self.wanted
+            && left < LAST
+        {
+            self.recent.push(definition)?;
+        }
+        Ok(())
+    }
+
+    // The names that a strategy goes through are calls, too.
+    fn begin<M: Meaning>(
+        &mut self,
+        host: &Host<'t, M>,
+        machine: &Machine<'t>,
+        strategy: &'t ResolvedStrategy,
+        scope: usize,
+    ) -> Result<(), NoMemory> {
+        let frames = machine.frames.len();
+        let mut strategy = strategy;
+        let mut scope = scope;
+        for _ in 0..machine.steps {
+            match strategy.form() {
+                Form::Call(definition, _, _) => {
+                    self.note(*definition, machine.steps)?;
+                    self.call(*definition, strategy, frames)?;
+                }
+                Form::Param(_) => {}
+                _ => break,
+            }
+            let Some(known) = machine.stands_for(host, strategy, scope) else {
+                break;
+            };
+            strategy = known.strategy;
+            scope = known.written_in;
+        }
+        self.begun = Some(Begun {
+            strategy,
+            scope,
+            frames,
+            edits: machine.trail.count,
+        });
+        Ok(())
+    }
+
+    // A call that takes the place of one of the same definition is counted there.
+    fn call(
+        &mut self,
+        definition: usize,
+        from: &'t ResolvedStrategy,
+        depth: usize,
+    ) -> Result<(), NoMemory> {
+        let mut open = self.calls.len();
+        let mut times = 1u64;
+        let mut beside = 0usize;
+        for call in self.calls.iter().rev() {
+            if call.depth != depth {
+                break;
+            }
+            beside = beside.saturating_add(1);
+            if call.definition == definition {
+                times = call.times.saturating_add(1);
+                open = open.saturating_sub(beside);
+                break;
+            }
+        }
+        if times == 1 && beside >= AT_ONE_DEPTH {
+            open = open.saturating_sub(1);
+        }
+        self.calls.truncate(open);
+        self.calls.push(Called {
+            definition,
+            from,
+            times,
+            depth,
+        })?;
+        Ok(())
+    }
+
+    // ---- failures
+
+    fn fail(&mut self, begun: Option<Begun<'t>>, machine: &Machine<'t>) -> Result<(), NoMemory> {
+        let mut succeeded = self.succeeded.take();
+        if let Kind::List = machine.part.kind() {
+            succeeded = None;
+        }
+        let Some(last) = begun.or(succeeded) else {
+            return Ok(());
+        };
+        let is_wanted = match self.wanted {
+            Wanted::Failure => {
+                self.causes.fail(self.turn);
+                !machine.frames.catches()
+            }
+            Wanted::FailureIn(turn) => turn == self.turn,
+            _ => false,
+        };
+        if is_wanted {
+            let stand = self.stand(machine, last, begun.is_none())?;
+            self.stand = Some(stand);
+        }
+        if self.is_complete() {
+            // nothing more is wanted, and this ends the run
+            return Err(NoMemory);
+        }
+        Ok(())
+    }
+
+    /// Whether it was a failure that is wanted and kept, after which the run was ended.
+    pub fn is_complete(&self) -> bool {
+        matches!(self.wanted, Wanted::FailureIn(_)) && self.stand.is_some()
+    }
+
+    // Where the machine stands after it has begun this.
+    fn stand(
+        &self,
+        machine: &Machine<'t>,
+        begun: Begun<'t>,
+        is_rest: bool,
+    ) -> Result<Stand<'t>, NoMemory> {
+        let alloc = self.about.alloc;
+        let place = self.about.find(&self.calls, begun.strategy);
+        let mut bound = Vec::new(alloc);
+        if let Some(place) = place
+            && let Some(node) = place.node
+        {
+            add_bound(&mut bound, machine, begun.scope, node)?;
+        }
+        Ok(Stand {
+            strategy: begun.strategy,
+            place,
+            calls: Vec::from_slice(alloc, &self.calls)?,
+            spot: machine.frames.spot(alloc)?,
+            focus: machine.part.value()?.to_term(alloc)?,
+            bound,
+            is_rest,
+        })
+    }
+}
+
+/// Keeps what is wanted of a run of these definitions and primitives.
+#[derive(Drop)]
+pub struct Observer<'t, M: Meaning> {
+    pub host: Host<'t, M>,
+    pub kept: Kept<'t>,
+}
+
+impl<'t, M: Meaning> Look<'t> for Observer<'t, M> {
+    fn before_turn(&mut self, machine: &Machine<'t>) -> Result<(), NoMemory> {
+        self.kept.before_turn(&self.host, machine)
+    }
+
+    fn at_end(&mut self, machine: &Machine<'t>) -> Result<(), NoMemory> {
+        self.kept.at_end(machine)
+    }
+}
+
+// ---- definitions that are tried at once
+
+// The definition that was tried in the turn that began this, if it opened no frame: as the first branch
+// of a choice, or of that which a call of a definition like `try` stands for.
+fn tried_at_once(begun: Begun<'_>, machine: &Machine<'_>) -> Option<usize> {
+    if machine.frames.len() > begun.frames {
+        return None;
+    }
+    match begun.strategy.form() {
+        Form::Guard(parts) => called_by(&parts.0),
+        Form::Call(_, strategies, patterns) if patterns.is_empty() && strategies.len() == 1 => {
+            match machine.next {
+                Next::Done => called_by(strategies.first()?),
+                _ => None,
+            }
+        }
+        _ => None,
+    }
+}
+
+// The definition without arguments that a strategy calls.
+fn called_by(strategy: &ResolvedStrategy) -> Option<usize> {
+    match strategy.form() {
+        Form::Call(definition, strategies, patterns)
+            if strategies.is_empty() && patterns.is_empty() => { Some(*definition) }
+        _ => None,
+    }
+}
+
+// ---- bindings
+
+// Adds the variables of what the strategy matches, builds or hands to a primitive, where they are bound
+// in the scope.
+fn add_bound<'t>(
+    bound: &mut Vec<Bound<'t>>,
+    machine: &Machine<'_>,
+    scope: usize,
+    node: Node<'t>,
+) -> Result<(), NoMemory> {
+    match (node.resolved.form(), node.named.form()) {
+        (Form::Match(place), Named::Match(pattern)) | (Form::Build(place), Named::Build(pattern)) =>
+            {
+                add_variables(bound, machine, scope, place, pattern, DEEPEST)?;
+            }
+        (Form::Seq(parts), Named::Seq(names)) => {
+            if let (Form::Match(place), Named::Match(pattern)) = (parts.0.form(), names.0.form()) {
+                add_variables(bound, machine, scope, place, pattern, DEEPEST)?;
+            }
+        }
+        (Form::Prim(_, places), Named::Prim(_, patterns)) => {
+            for (place, pattern) in places.iter().zip(patterns) {
+                add_variables(bound, machine, scope, place, pattern, DEEPEST)?;
+            }
+        }
+        _ => {}
+    }
+    Ok(())
+}
+
+fn add_variables<'t>(
+    bound: &mut Vec<Bound<'t>>,
+    machine: &Machine<'_>,
+    scope: usize,
+    place: &strategy_syntax::Place,
+    pattern: &'t Pattern,
+    deep: usize,
+) -> Result<(), NoMemory> {
+    let Some(deep) = deep.checked_sub(1) else {
+        return Ok(());
+    };
+    if let PlaceForm::Variable(variable) | PlaceForm::At(variable, _) = place.form()
+        && let PatternForm::Variable(name) | PatternForm::At(name, _) = pattern.form()
+        && bound.len() < BOUND
+        && let Some(cell) = machine.scopes.cell(scope, *variable)
+        && let Some(value) = machine.cells.get(cell)
+    {
+        let term = value.to_term(*bound.allocator())?;
+        bound.push(Bound { name, term })?;
+    }
+    match (place.form(), pattern.form()) {
+        (PlaceForm::At(_, place), PatternForm::At(_, inner))
+        | (PlaceForm::Annotated(place, _), PatternForm::Annotated(inner, _)) => {
+            add_variables(bound, machine, scope, place, inner, deep)?;
+        }
+        (PlaceForm::Compound(_, places), PatternForm::Compound(_, parts))
+        | (PlaceForm::WithTail(places, _), PatternForm::WithTail(parts, _)) => {
+            for (place, part) in places.iter().zip(parts) {
+                add_variables(bound, machine, scope, place, part, deep)?;
+            }
+        }
+        _ => {}
+    }
+    Ok(())
+}
