@@ -2,11 +2,11 @@
 use Rattle.std.proofs.Common.{◌≡◌, ◌⊎◌, ◌∙◌, ◌++◌, ap, refl, sym, subst, inl, inr, Bool, true, false, ℕ, zero, suc, List, [], ◌∷◌, Option, Some, None, codes, is_some, slice_get, cond}
 use Rattle.std.specs.Prelude.{⊤, ◌||◌, ◌&&◌, option_and_then, ◌==◌, not, drop, encode_utf8, find, fold, length}
 use Rattle.std.specs.Option.{option_map_or}
-use Rattle.std.specs.List.{filter}
+use Rattle.std.specs.List.{filter, list_any}
 use Rattle.std.specs.Str.{bytes_eq, chars}
 use Rattle.std.proofs.lemmas.Slice.Eq.{bytes_eq-Decides}
 use Rattle.std.proofs.lemmas.List.Elements.{filter-append}
-use Rattle.command_line.specs.Line.{file_name, files_option, flag_of, given, interactive_flag, line, steps_option}
+use Rattle.command_line.specs.Line.{file_name, files_option, flag_of, given, interactive_flag, line, max_steps_option, max_terms_option, steps_option}
 use Rattle.clap.specs.declared.builder.value_parser.Reading.{Reading}
 use Rattle.clap.specs.declared.builder.value_parser.Reading.TheVariants.{AsWritten}
 use Rattle.clap.specs.declared.parser.matches.ValueSource.{ValueSource}
@@ -31,8 +31,21 @@ files_rule name = with_index 1 (filled (files_option name))
 abbrev steps_rule : Rule
 steps_rule = with_index 1 (filled steps_option)
 
+abbrev max_steps_rule : Rule
+max_steps_rule = with_index 1 (filled max_steps_option)
+
+abbrev max_terms_rule : Rule
+max_terms_rule = with_index 1 (filled max_terms_option)
+
 abbrev file_rule : Rule
 file_rule = with_index 1 (filled file_name)
+
+-- the names of the arguments that are no flags
+abbrev option_names : List Text
+option_names = codes "steps" ∷ codes "max-steps" ∷ codes "max-terms" ∷ codes "module" ∷ codes "tree" ∷ codes "write" ∷ codes "file" ∷ codes "help" ∷ codes "version" ∷ []
+
+abbrev is_option : Text → Bool
+is_option name = list_any (λ id. bytes_eq id name) option_names
 
 module _ (flag : Text) where
   -- ---- the rows of the flag
@@ -176,71 +189,31 @@ module _ (flag : Text) where
   }
 
   -- a flag of this name or another
-  flag_fits : (name : Text) (short : Option ℕ) → (name ≡ flag) ⊎ (bytes_eq name flag ≡ false) → Fits (flag_rule name short)
-  flag_fits name short (inl same) = subst (λ (it : Text). Fits (flag_rule it short)) (sym same) (own_fits short)
-  flag_fits name short (inr other) = other_fits (flag_rule name short) other (λ values rows. refl)
+  flag_fits : (name : Text) (short : Option ℕ) → Fits (flag_rule name short)
+  flag_fits name short = go (bytes_eq name flag) refl
+    where
+      go : (b : Bool) → bytes_eq name flag ≡ b → Fits (flag_rule name short)
+      go true same = subst (λ (it : Text). Fits (flag_rule it short)) (sym ((bytes_eq-Decides name flag).0 same)) (own_fits short)
+      go false other = other_fits (flag_rule name short) other (λ values rows. refl)
 
-  -- which flag it is, and that it is no other argument
-  record IsFlag : Type 0 where
-    library : (codes "library" ≡ flag) ⊎ (bytes_eq (codes "library") flag ≡ false)
-    stop : (codes "stop" ≡ flag) ⊎ (bytes_eq (codes "stop") flag ≡ false)
-    lines : (codes "lines" ≡ flag) ⊎ (bytes_eq (codes "lines") flag ≡ false)
-    explain : (codes "explain" ≡ flag) ⊎ (bytes_eq (codes "explain") flag ≡ false)
-    profile : (codes "profile" ≡ flag) ⊎ (bytes_eq (codes "profile") flag ≡ false)
-    interactive : (codes "interactive" ≡ flag) ⊎ (bytes_eq (codes "interactive") flag ≡ false)
-    pretty : (codes "pretty" ≡ flag) ⊎ (bytes_eq (codes "pretty") flag ≡ false)
-    steps : bytes_eq (codes "steps") flag ≡ false
-    modules : bytes_eq (codes "module") flag ≡ false
-    trees : bytes_eq (codes "tree") flag ≡ false
-    writes : bytes_eq (codes "write") flag ≡ false
-    file : bytes_eq (codes "file") flag ≡ false
-    help : bytes_eq (codes "help") flag ≡ false
-    version : bytes_eq (codes "version") flag ≡ false
+  -- none of these is the flag
+  abbrev AreOthers : List Text → Type 0
+  AreOthers [] = ⊤
+  AreOthers (id ∷ ids) = (bytes_eq id flag ≡ false) × AreOthers ids
 
-  all_fit : IsFlag → AllFit rules
-  all_fit is = (
-    flag_fits (codes "library") None is.library,
-    (
-      other_fits steps_rule is.steps (λ values rows. refl),
-      (
-        flag_fits (codes "stop") None is.stop,
-        (
-          flag_fits (codes "lines") None is.lines,
-          (
-            flag_fits (codes "explain") None is.explain,
-            (
-              flag_fits (codes "profile") None is.profile,
-              (
-                flag_fits (codes "interactive") (Some 105) is.interactive,
-                (
-                  more_fits (files_rule (codes "module")) is.modules (λ values rows. refl),
-                  (
-                    more_fits (files_rule (codes "tree")) is.trees (λ values rows. refl),
-                    (
-                      more_fits (files_rule (codes "write")) is.writes (λ values rows. refl),
-                      (
-                        flag_fits (codes "pretty") None is.pretty,
-                        (
-                          other_fits file_rule is.file (λ values rows. refl),
-                          (
-                            request_fits (with_index 2 (filled help_rule)) is.help (λ values rows. refl),
-                            (
-                              request_fits (with_index 2 (filled version_rule)) is.version (λ values rows. refl),
-                              tt,
-                            ),
-                          ),
-                        ),
-                      ),
-                    ),
-                  ),
-                ),
-              ),
-            ),
-          ),
-        ),
-      ),
-    ),
-  )
+  each_other : (ids : List Text) → list_any (λ it. bytes_eq it flag) ids ≡ false → AreOthers ids
+  each_other [] none = tt
+  each_other (id ∷ ids) none = go (bytes_eq id flag) refl none (λ rest. each_other ids rest)
+    where
+      go : (b : Bool) → bytes_eq id flag ≡ b → (b || list_any (λ it. bytes_eq it flag) ids) ≡ false
+          → (list_any (λ it. bytes_eq it flag) ids ≡ false → AreOthers ids) → AreOthers (id ∷ ids)
+      go true same e rec = cc
+      go false other e rec = (other, rec e)
+
+  all_fit : is_option flag ≡ false → AllFit rules
+  all_fit free =
+      let is = each_other option_names free in
+      (flag_fits (codes "library") None, (other_fits steps_rule is.0 (λ values rows. refl), (other_fits max_steps_rule is.1.0 (λ values rows. refl), (other_fits max_terms_rule is.1.1.0 (λ values rows. refl), (flag_fits (codes "stop") None, (flag_fits (codes "lines") None, (flag_fits (codes "explain") None, (flag_fits (codes "profile") None, (flag_fits (codes "interactive") (Some 105), (more_fits (files_rule (codes "module")) is.1.1.1.0 (λ values rows. refl), (more_fits (files_rule (codes "tree")) is.1.1.1.1.0 (λ values rows. refl), (more_fits (files_rule (codes "write")) is.1.1.1.1.1.0 (λ values rows. refl), (flag_fits (codes "pretty") None, (other_fits file_rule is.1.1.1.1.1.1.0 (λ values rows. refl), (request_fits (with_index 2 (filled help_rule)) is.1.1.1.1.1.1.1.0 (λ values rows. refl), (request_fits (with_index 2 (filled version_rule)) is.1.1.1.1.1.1.1.1.0 (λ values rows. refl), tt))))))))))))))))
 
   -- ---- the rows at the end
 
@@ -572,145 +545,33 @@ abbrev IsReadAsGiven : Text → Type 0
 IsReadAsGiven flag = (words : List Text) (found : Bool) → (one_of flag (given words) ≡ Some (codes "true") → found ≡ true)
     → (one_of flag (given words) ≡ Some (codes "false") → found ≡ false) → found ≡ is_given flag (given words)
 
-by_settling : (flag : Text) → IsFlag flag → HasFlag flag rules → IsReadAsGiven flag
-by_settling flag is has = flag_is_given flag (all_fit flag is) (λ rows good. settles flag rules rows has good)
+by_settling : (flag : Text) → is_option flag ≡ false → HasFlag flag rules → IsReadAsGiven flag
+by_settling flag free has = flag_is_given flag (all_fit flag free) (λ rows good. settles flag rules rows has good)
 
 pub library_is_given : IsReadAsGiven (codes "library")
-library_is_given = by_settling (codes "library")
-    (record {
-      library = inl refl;
-      stop = inr refl;
-      lines = inr refl;
-      explain = inr refl;
-      profile = inr refl;
-      interactive = inr refl;
-      pretty = inr refl;
-      steps = refl;
-      modules = refl;
-      trees = refl;
-      writes = refl;
-      file = refl;
-      help = refl;
-      version = refl;
-    })
-    (inl ((None, refl), (refl, (refl, (refl, (refl, (refl, (refl, (refl, (refl, (refl, (refl, (refl, (refl, (refl, tt)))))))))))))))
+library_is_given = by_settling (codes "library") refl
+    (inl ((None, refl), (refl, (refl, (refl, (refl, (refl, (refl, (refl, (refl, (refl, (refl, (refl, (refl, (refl, (refl, (refl, tt)))))))))))))))))
 
 pub stop_is_given : IsReadAsGiven (codes "stop")
-stop_is_given = by_settling (codes "stop")
-    (record {
-      library = inr refl;
-      stop = inl refl;
-      lines = inr refl;
-      explain = inr refl;
-      profile = inr refl;
-      interactive = inr refl;
-      pretty = inr refl;
-      steps = refl;
-      modules = refl;
-      trees = refl;
-      writes = refl;
-      file = refl;
-      help = refl;
-      version = refl;
-    })
-    (inr (refl, inr (refl, inl ((None, refl), (refl, (refl, (refl, (refl, (refl, (refl, (refl, (refl, (refl, (refl, (refl, tt)))))))))))))))
+stop_is_given = by_settling (codes "stop") refl
+    (inr (refl, inr (refl, inr (refl, inr (refl, inl ((None, refl), (refl, (refl, (refl, (refl, (refl, (refl, (refl, (refl, (refl, (refl, (refl, tt)))))))))))))))))
 
 pub lines_is_given : IsReadAsGiven (codes "lines")
-lines_is_given = by_settling (codes "lines")
-    (record {
-      library = inr refl;
-      stop = inr refl;
-      lines = inl refl;
-      explain = inr refl;
-      profile = inr refl;
-      interactive = inr refl;
-      pretty = inr refl;
-      steps = refl;
-      modules = refl;
-      trees = refl;
-      writes = refl;
-      file = refl;
-      help = refl;
-      version = refl;
-    })
-    (inr (refl, inr (refl, inr (refl, inl ((None, refl), (refl, (refl, (refl, (refl, (refl, (refl, (refl, (refl, (refl, (refl, tt)))))))))))))))
+lines_is_given = by_settling (codes "lines") refl
+    (inr (refl, inr (refl, inr (refl, inr (refl, inr (refl, inl ((None, refl), (refl, (refl, (refl, (refl, (refl, (refl, (refl, (refl, (refl, (refl, tt)))))))))))))))))
 
 pub explain_is_given : IsReadAsGiven (codes "explain")
-explain_is_given = by_settling (codes "explain")
-    (record {
-      library = inr refl;
-      stop = inr refl;
-      lines = inr refl;
-      explain = inl refl;
-      profile = inr refl;
-      interactive = inr refl;
-      pretty = inr refl;
-      steps = refl;
-      modules = refl;
-      trees = refl;
-      writes = refl;
-      file = refl;
-      help = refl;
-      version = refl;
-    })
-    (inr (refl, inr (refl, inr (refl, inr (refl, inl ((None, refl), (refl, (refl, (refl, (refl, (refl, (refl, (refl, (refl, (refl, tt)))))))))))))))
+explain_is_given = by_settling (codes "explain") refl
+    (inr (refl, inr (refl, inr (refl, inr (refl, inr (refl, inr (refl, inl ((None, refl), (refl, (refl, (refl, (refl, (refl, (refl, (refl, (refl, (refl, tt)))))))))))))))))
 
 pub profile_is_given : IsReadAsGiven (codes "profile")
-profile_is_given = by_settling (codes "profile")
-    (record {
-      library = inr refl;
-      stop = inr refl;
-      lines = inr refl;
-      explain = inr refl;
-      profile = inl refl;
-      interactive = inr refl;
-      pretty = inr refl;
-      steps = refl;
-      modules = refl;
-      trees = refl;
-      writes = refl;
-      file = refl;
-      help = refl;
-      version = refl;
-    })
-    (inr (refl, inr (refl, inr (refl, inr (refl, inr (refl, inl ((None, refl), (refl, (refl, (refl, (refl, (refl, (refl, (refl, (refl, tt)))))))))))))))
+profile_is_given = by_settling (codes "profile") refl
+    (inr (refl, inr (refl, inr (refl, inr (refl, inr (refl, inr (refl, inr (refl, inl ((None, refl), (refl, (refl, (refl, (refl, (refl, (refl, (refl, (refl, tt)))))))))))))))))
 
 pub interactive_is_given : IsReadAsGiven (codes "interactive")
-interactive_is_given = by_settling (codes "interactive")
-    (record {
-      library = inr refl;
-      stop = inr refl;
-      lines = inr refl;
-      explain = inr refl;
-      profile = inr refl;
-      interactive = inl refl;
-      pretty = inr refl;
-      steps = refl;
-      modules = refl;
-      trees = refl;
-      writes = refl;
-      file = refl;
-      help = refl;
-      version = refl;
-    })
-    (inr (refl, inr (refl, inr (refl, inr (refl, inr (refl, inr (refl, inl ((Some 105, refl), (refl, (refl, (refl, (refl, (refl, (refl, (refl, tt)))))))))))))))
+interactive_is_given = by_settling (codes "interactive") refl
+    (inr (refl, inr (refl, inr (refl, inr (refl, inr (refl, inr (refl, inr (refl, inr (refl, inl ((Some 105, refl), (refl, (refl, (refl, (refl, (refl, (refl, (refl, tt)))))))))))))))))
 
 pub pretty_is_given : IsReadAsGiven (codes "pretty")
-pretty_is_given = by_settling (codes "pretty")
-    (record {
-      library = inr refl;
-      stop = inr refl;
-      lines = inr refl;
-      explain = inr refl;
-      profile = inr refl;
-      interactive = inr refl;
-      pretty = inl refl;
-      steps = refl;
-      modules = refl;
-      trees = refl;
-      writes = refl;
-      file = refl;
-      help = refl;
-      version = refl;
-    })
-    (inr (refl, inr (refl, inr (refl, inr (refl, inr (refl, inr (refl, inr (refl, inr (refl, inr (refl, inr (refl, inl ((None, refl), (refl, (refl, (refl, tt)))))))))))))))
+pretty_is_given = by_settling (codes "pretty") refl
+    (inr (refl, inr (refl, inr (refl, inr (refl, inr (refl, inr (refl, inr (refl, inr (refl, inr (refl, inr (refl, inr (refl, inr (refl, inl ((None, refl), (refl, (refl, (refl, tt)))))))))))))))))

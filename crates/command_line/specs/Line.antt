@@ -1,10 +1,9 @@
--- The command line, in the terms of `clap`: flags, `--steps N`, options that name files and can be
--- given again, and the name of a file.
-use Rattle.std.specs.Prelude.{◌≡◌, ◌&&◌, ◌==◌, ℕ, Bool, true, List, [], ◌∷◌, ◌++◌, codes, fold, pos, Some, is_some, unwrap_or, if◌then◌else◌}
+-- The command line, in the terms of `clap`: flags, options with a number, options that name files and
+-- can be given again, and the name of a file.
+use Rattle.std.specs.Prelude.{◌≡◌, ◌≤◌, ◌&&◌, ◌==◌, ℕ, Bool, true, List, [], ◌∷◌, ◌++◌, codes, fold, pos, Some, is_some, unwrap_or, if◌then◌else◌}
 use Rattle.std.specs.List.{list_all, list_any, before_first}
 use Rattle.std.specs.Str.Parse.{IsNumeral, digits_value, without_leading_plus}
 use Rattle.term_core.specs.Word.{label_of}
-use Rattle.session_history.specs.Budget.{IsBudget}
 use Rattle.clap.specs.Words.{App, Kinds, Row, Rule, Text, all_of, fault_of, matches_of, new_app, new_rule, with_rule}
 use Rattle.clap.specs.Simple.{on_top}
 use Rattle.clap.specs.Kinds.{or_else}
@@ -15,14 +14,23 @@ use Rattle.command_line.specs.declared.named.Named.{Named}
 use Rattle.command_line.specs.declared.named.Load.{Load}
 use Rattle.command_line.specs.declared.named.Load.TheVariants.{Module, Tree}
 
--- a number from 1 to 1,000,000, and 100,000 if none is given
-abbrev pub steps_option : Rule
-steps_option = record (new_rule (codes "steps")) {
-  long = Some (codes "steps");
+-- an option of this name for a number in this range, and the last text if none is given
+abbrev pub number_option : Text → ℕ → ℕ → Text → Rule
+number_option name least most usual = record (new_rule name) {
+  long = Some name;
   value_names = 1;
-  defaults = codes "100000" ∷ [];
-  parser = Some (Signed (pos 1) (pos 1000000));
+  defaults = usual ∷ [];
+  parser = Some (Signed (pos least) (pos most));
 }
+
+abbrev pub steps_option : Rule
+steps_option = number_option (codes "steps") 1 4000000000 (codes "100000")
+
+abbrev pub max_steps_option : Rule
+max_steps_option = number_option (codes "max-steps") 1000000 4000000000 (codes "1000000")
+
+abbrev pub max_terms_option : Rule
+max_terms_option = number_option (codes "max-terms") 100000 1000000000 (codes "100000")
 
 -- a flag of this name
 abbrev pub flag_of : Text → Rule
@@ -45,7 +53,7 @@ named_app = on_top (λ s. record s { has_version = true }) (new_app (codes "stra
 
 abbrev pub line : App
 line = fold with_rule named_app
-    (flag_of (codes "library") ∷ steps_option ∷ flag_of (codes "stop") ∷ flag_of (codes "lines") ∷ flag_of (codes "explain")
+    (flag_of (codes "library") ∷ steps_option ∷ max_steps_option ∷ max_terms_option ∷ flag_of (codes "stop") ∷ flag_of (codes "lines") ∷ flag_of (codes "explain")
     ∷ flag_of (codes "profile") ∷ interactive_flag ∷ files_option (codes "module") ∷ files_option (codes "tree") ∷ files_option (codes "write")
     ∷ flag_of (codes "pretty") ∷ file_name ∷ [])
 
@@ -53,11 +61,11 @@ line = fold with_rule named_app
 abbrev pub given : List Text → List Row
 given words = matches_of line words
 
--- n is the number that a text spells, if that is a budget
-abbrev pub IsNumberIfBudget : List ℕ → ℕ → Type 0
-IsNumberIfBudget text n =
+-- n is the number that a text spells, if that is in this range
+abbrev pub IsNumberIn : ℕ → ℕ → List ℕ → ℕ → Type 0
+IsNumberIn least most text n =
     let digits = without_leading_plus text in
-    IsNumeral 10 digits → IsBudget (digits_value 10 digits) → n ≡ digits_value 10 digits
+    IsNumeral 10 digits → least ≤ digits_value 10 digits → digits_value 10 digits ≤ most → n ≡ digits_value 10 digits
 
 -- ---- NAME=FILE
 

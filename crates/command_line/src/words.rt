@@ -4,18 +4,20 @@ ghost use Rattle.std.specs.Prelude.{◌≡◌, ◌≤◌, ◌||◌, ℕ, List, I
 ghost use Rattle.clap.specs.Words.{FailsBy, app_of, first_of, found_of, kind_of, one_of, one_text, rows_of, rule_of};
 ghost use Rattle.clap.specs.Takes.{is_given};
 ghost use Rattle.script_text.specs.declared.framing.Framing.TheVariants.{Continued, Lines};
-ghost use Rattle.session_history.specs.Budget.{IsBudget};
+ghost use Rattle.term_core.specs.declared.TheConstants.{MAX_ROOM, MAX_SIZE};
+ghost use Rattle.session_history.specs.declared.TheConstants.{MAX_BUDGET, MOST_STEPS};
 ghost use Rattle.clap.specs.declared.error.kind.ErrorKind.TheVariants.{ValueValidation};
-ghost use Rattle.command_line.specs.Line.{IsNumberIfBudget, are_named_all, as_given, file_name, files_option, flag_of, given, interactive_flag, line, line_fault, modules_of, steps_option, trees_of, values};
+ghost use Rattle.command_line.specs.Line.{IsNumberIn, are_named_all, as_given, file_name, files_option, flag_of, given, interactive_flag, line, line_fault, max_steps_option, max_terms_option, modules_of, steps_option, trees_of, values};
 ghost use Rattle.command_line.specs.inside.Malformed.{IfMalformed};
 
 use crate::named::{Load, Named, Untaken, in_order, read_all};
 use clap::error::ErrorKind;
 use clap::{Arg, ArgAction, ArgMatches, Command, Error, value_parser};
 use script_text::Framing;
-use session_history::MAX_BUDGET;
+use session_history::{Limits, MAX_BUDGET, MOST_STEPS};
 use std::alloc::{AllocError, Global};
 use std::convert::AsStr;
+use term_core::{MAX_ROOM, MAX_SIZE};
 
 /// The budget of a command that names none, if the command line names none either.
 pub const DEFAULT_BUDGET: u32 = 100_000;
@@ -37,8 +39,12 @@ const EXAMPLES: &str = "Examples:
 pub struct CommandLine<'a> {
     /// Whether the library's definitions are loaded before the script.
     pub library: bool,
-    /// The budget of commands that name none, from 1 to 1,000,000.
+    /// The budget of commands that name none, from 1 to 4,000,000,000.
     pub budget: u32,
+    /// The greatest budget, from 1,000,000 to 4,000,000,000.
+    pub max_steps: u32,
+    /// The greatest size of a term, from 100,000 to 1,000,000,000.
+    pub max_terms: u32,
     /// Whether the run ends after the first refused command.
     pub stop: bool,
     /// Whether each line of the script is a command.
@@ -72,6 +78,16 @@ impl CommandLine<'_> {
         }
     }
 
+    /// The limits of the session.
+    pub fn limits(&self) -> Limits
+        ensures { (result.max_terms ≡ self.now.max_terms) × (result.max_steps ≡ self.now.max_steps) }
+    {
+        Limits {
+            max_terms: self.max_terms,
+            max_steps: self.max_steps,
+        }
+    }
+
     /// Whether refused commands are explained.
     pub fn explains(&self) -> bool
         ensures { result ≡ (self.now.explain || self.now.interactive) }
@@ -84,12 +100,19 @@ impl CommandLine<'_> {
 ///
 /// Errors: those of `clap`, which include a request for the help text and want of memory.
 pub fn arguments<'a, S: AsStr>(alloc: Global, words: &'a [S]) -> Result<CommandLine<'a>, Error>
-    ensures budget { IfOk result (λ arguments. IsBudget arguments.budget) }
+    ensures budget { IfOk result (λ arguments. (1 ≤ arguments.budget) × (arguments.budget ≤ MOST_STEPS)) }
+    ensures room { IfOk result (λ arguments. arguments.max_terms ≤ MAX_ROOM) }
 
     // What `clap` finds in the words for this command line, by the names of its arguments.
     ensures number { IfOk result (λ arguments. (text : List ℕ)
         → one_of (codes "steps") (given (map S.text words.now)) ≡ Some text
-        → IsNumberIfBudget text arguments.budget) }
+        → IsNumberIn 1 MOST_STEPS text arguments.budget) }
+    ensures max_steps { IfOk result (λ arguments. (text : List ℕ)
+        → one_of (codes "max-steps") (given (map S.text words.now)) ≡ Some text
+        → IsNumberIn MAX_BUDGET MOST_STEPS text arguments.max_steps) }
+    ensures max_terms { IfOk result (λ arguments. (text : List ℕ)
+        → one_of (codes "max-terms") (given (map S.text words.now)) ≡ Some text
+        → IsNumberIn MAX_SIZE MAX_ROOM text arguments.max_terms) }
     ensures file { IfOk result (λ arguments. option_map (λ name. name.now) arguments.file
         ≡ first_of (codes "file") (given (map S.text words.now))) }
     ensures library { IfOk result (λ arguments. arguments.library
@@ -124,7 +147,9 @@ pub fn arguments<'a, S: AsStr>(alloc: Global, words: &'a [S]) -> Result<CommandL
     match read_files(alloc, &matches) {
         Ok((loads, writes)) => Ok(CommandLine {
             library: matches.get_flag("library"),
-            budget: budget(&matches),
+            budget: number_of(&matches, "steps", 1, MOST_STEPS, DEFAULT_BUDGET),
+            max_steps: number_of(&matches, "max-steps", MAX_BUDGET, MOST_STEPS, MAX_BUDGET),
+            max_terms: number_of(&matches, "max-terms", MAX_SIZE, MAX_ROOM, MAX_SIZE),
             stop: matches.get_flag("stop"),
             lines: matches.get_flag("lines"),
             explain: matches.get_flag("explain"),
@@ -198,6 +223,8 @@ fn command<'a>(alloc: Global) -> Result<Command<'a>, AllocError>
             "Loads the module `library` first, as a step: try, repeat, topdown, innermost, map and others",
         ))?
         .arg(steps_option(alloc))?
+        .arg(max_steps_option(alloc))?
+        .arg(max_terms_option(alloc))?
         .arg(flag(
             alloc,
             "stop",
@@ -222,7 +249,7 @@ fn command<'a>(alloc: Global) -> Result<Command<'a>, AllocError>
         .arg(files_option(
             alloc,
             "module",
-            "Loads a module from a file before the script, as a step; can be given again",
+            "Loads a module from a file before the script; can be given again, in any order",
         ))?
         .arg(files_option(
             alloc,
@@ -271,9 +298,33 @@ fn steps_option<'a>(alloc: Global) -> Arg<'a>
     Arg::new(alloc, "steps")
         .long("steps")
         .value_name("N")
-        .value_parser(value_parser!(u32).range(1..=MAX_BUDGET as i64))
+        .value_parser(value_parser!(u32).range(1..=MOST_STEPS as i64))
         .default_value("100000")
-        .help("The steps that a strategy may take where `apply` names none, from 1 to 1,000,000")
+        .help("The steps that a strategy may take where `apply` names none")
+}
+
+fn max_steps_option<'a>(alloc: Global) -> Arg<'a>
+    ensures rule { rule_of result ≡ max_steps_option }
+    ensures local { result.global ≡ false }
+{
+    Arg::new(alloc, "max-steps")
+        .long("max-steps")
+        .value_name("N")
+        .value_parser(value_parser!(u32).range(MAX_BUDGET as i64..=MOST_STEPS as i64))
+        .default_value("1000000")
+        .help("The most steps that `within` and --steps may name, up to 4,000,000,000")
+}
+
+fn max_terms_option<'a>(alloc: Global) -> Arg<'a>
+    ensures rule { rule_of result ≡ max_terms_option }
+    ensures local { result.global ≡ false }
+{
+    Arg::new(alloc, "max-terms")
+        .long("max-terms")
+        .value_name("N")
+        .value_parser(value_parser!(u32).range(MAX_SIZE as i64..=MAX_ROOM as i64))
+        .default_value("100000")
+        .help("The most terms in a tree that is loaded or built, up to 1,000,000,000")
 }
 
 fn files_option<'a>(alloc: Global, name: &'a str, help: &'a str) -> Arg<'a>
@@ -296,14 +347,15 @@ fn file_name<'a>(alloc: Global) -> Arg<'a>
         .help("The script, or standard input where there is none")
 }
 
-// The budget, which the parser keeps in range.
-fn budget(matches: &ArgMatches<'_>) -> u32
-    ensures within { IsBudget result }
-    ensures number { (text : List ℕ) → one_text (found_of matches.now) (codes "steps") ≡ Some text
-        → IsNumberIfBudget text result }
+// The number of an option, which the parser keeps in this range; `usual` where it isn't.
+fn number_of(matches: &ArgMatches<'_>, option: &str, least: u32, most: u32, usual: u32) -> u32
+    requires { (least ≤ usual) × (usual ≤ most) }
+    ensures within { (least ≤ result) × (result ≤ most) }
+    ensures number { (text : List ℕ) → one_text (found_of matches.now) option.now ≡ Some text
+        → IsNumberIn least most text result }
 {
-    match matches.get_one::<u32>("steps") {
-        Some(budget) if budget >= 1 && budget <= MAX_BUDGET => budget,
-        _ => DEFAULT_BUDGET,
+    match matches.get_one::<u32>(option) {
+        Some(number) if number >= least && number <= most => number,
+        _ => usual,
     }
 }

@@ -1,10 +1,11 @@
 //! What is said on standard error of refused commands and of accepted modules.
 
 use command_line::Load;
+use hint_text::{Numbered, Past, Seen};
 use prim_core::Meaning;
 use run_hints::{explain_run, profile_run, tree_of};
 use script_core::{Framing, Piece, Settings, Watch};
-use script_hints::{Numbered, Past, Seen, explain, warn, warn_of_end};
+use script_hints::{explain, warn, warn_of_end};
 use session_core::{MAX_BUDGET, Refusal, Session};
 use std::alloc::{AllocError, Global};
 use std::io::Write;

@@ -6,6 +6,7 @@ ghost use Rattle.stratbench.specs.Files.{Loads};
 use crate::status::FileFault;
 use command_line::Load;
 use prim_core::Meaning;
+use script_hints::has_fault;
 use session_core::{Refusal, Session};
 use session_loading::{load_module, load_tree};
 use std::alloc::Global;
@@ -40,4 +41,24 @@ pub fn read_file(rt: &HostRuntime, file: &str) -> Result<Vec<u8>, FileFault> {
         Err(error) if error.kind() == ErrorKind::OutOfMemory => Err(FileFault::Memory),
         Err(error) => Err(FileFault::Read(error)),
     }
+}
+
+/// The file of the module with the fault that the refusal names, or of the first module.
+pub fn load_at_fault<'l, 'a, M: Meaning>(
+    alloc: Global,
+    session: &Session<M>,
+    loads: &'l [Load<'a>],
+    refusal: &Refusal,
+) -> Option<&'l Load<'a>> {
+    let mut first = None;
+    for load in loads {
+        if let Load::Module(named) = load {
+            let found = has_fault(alloc, session.timeline(), &named.name, refusal);
+            if found == Ok(true) {
+                return Some(load);
+            }
+            first = first.or(Some(load));
+        }
+    }
+    first
 }

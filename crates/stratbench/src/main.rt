@@ -1,9 +1,10 @@
 //! Reads a script from a file or standard input and answers each of its commands on standard output.
 #![tactic(auto)]
 
-ghost use Rattle.std.specs.Prelude.{◌≡◌, ◌+◌, ◌<◌, ◌^◌, ℕ, List, Ok, OnOk};
-ghost use Rattle.session_history.specs.Budget.{IsBudget};
-ghost use Rattle.stratbench.specs.Files.{Loads, LoadsAll};
+ghost use Rattle.std.specs.Prelude.{◌≡◌, ◌≤◌, ◌+◌, ◌<◌, ◌^◌, ℕ, List, Ok, OnOk};
+ghost use Rattle.term_core.specs.declared.TheConstants.{MAX_ROOM};
+ghost use Rattle.command_line.specs.Line.{modules_of};
+ghost use Rattle.stratbench.specs.Files.{Loads, LoadsAll, LoadsFile, LoadsModules, SetsAll};
 
 mod dialogue;
 mod explaining;
@@ -16,7 +17,7 @@ use clap::error::ErrorKind;
 use command_line::{CommandLine, Load, arguments};
 use dialogue::{Group, Prompting, Watched};
 use explaining::{Explaining, Wanted, explain_load, warn_of_load};
-use loading::{load_text, read_file};
+use loading::{load_at_fault, load_text, read_file};
 use prim_core::{Meaning, Primitive, Primitives};
 use prim_extended::extended_primitives;
 use script_core::{
@@ -55,9 +56,19 @@ fn start(rt: &HostRuntime) -> u8 {
 
 fn start_with(rt: &HostRuntime, words: &[String]) -> u8 {
     match arguments(rt.alloc(), words) {
-        Ok(line) => run_line(rt, &line),
+        Ok(line) => start_line(rt, &line),
         Err(error) => refuse_line(rt, &error),
     }
+}
+
+// Runs the script, if the budget is within the greatest.
+fn start_line(rt: &HostRuntime, line: &CommandLine<'_>) -> u8
+    requires { line.now.max_terms ≤ MAX_ROOM }
+{
+    if line.budget > line.max_steps {
+        return refuse_budget(rt, line);
+    }
+    run_line(rt, line)
 }
 
 // The words of the command line, which have to be text.
@@ -72,6 +83,16 @@ fn refuse_line(rt: &HostRuntime, error: &Error) -> u8 {
     }
     let _ = error.print(rt);
     error.exit_code() as u8
+}
+
+// Prints that `--steps` names more than the greatest budget.
+fn refuse_budget(rt: &HostRuntime, line: &CommandLine<'_>) -> u8 {
+    let (steps, most) = (line.budget, line.max_steps);
+    let _ = eprintln!(rt;
+        "error: invalid value '{steps}' for '--steps <N>': {steps} is not in 1..={most}"
+    );
+    let _ = eprintln!(rt; "\nFor more information, try '--help'.");
+    REFUSED
 }
 
 // Prints the fault of a run, if there was one.
@@ -105,7 +126,7 @@ fn print_refusal(rt: &HostRuntime, file: &str, refusal: &Refusal) -> io::Result<
 
 // Runs a new session with the extended primitives over the script. Returns the exit status.
 fn run_line(rt: &HostRuntime, line: &CommandLine<'_>) -> u8
-    requires { IsBudget line.now.budget }
+    requires { line.now.max_terms ≤ MAX_ROOM }
 {
     match extended_primitives(rt.alloc()) {
         Ok(primitives) => run_with(rt, line, primitives),
@@ -119,16 +140,15 @@ fn run_with<M: Meaning>(
     line: &CommandLine<'_>,
     primitives: Vec<Primitive<M>>,
 ) -> u8
-    requires { IsBudget line.now.budget }
+    requires { line.now.max_terms ≤ MAX_ROOM }
 {
-    let mut session = Session::new(rt.alloc(), Primitives::new(primitives));
+    let primitives = Primitives::new(primitives);
+    let mut session = Session::with_limits(rt.alloc(), primitives, line.limits());
     run_whole(rt, line, &mut session)
 }
 
 // Loads what is to be loaded, runs the script, and writes what is to be written.
-fn run_whole<M: Meaning>(rt: &HostRuntime, line: &CommandLine<'_>, session: &mut Session<M>) -> u8
-    requires { IsBudget line.now.budget }
-{
+fn run_whole<M: Meaning>(rt: &HostRuntime, line: &CommandLine<'_>, session: &mut Session<M>) -> u8 {
     if line.library {
         if let Err(fault) = load_library(rt.alloc(), session) {
             return report(rt, Err(fault));
@@ -147,7 +167,8 @@ fn run_whole<M: Meaning>(rt: &HostRuntime, line: &CommandLine<'_>, session: &mut
     }
 }
 
-// Loads the files, up to the first with a fault, whose exit status is returned then.
+// Loads the files, up to the first with a fault, whose exit status is returned then. The modules are
+// one step, where the first of them stands, so that their order doesn't matter.
 fn load_all<M: Meaning>(
     rt: &HostRuntime,
     session: &mut Session<M>,
@@ -155,13 +176,68 @@ fn load_all<M: Meaning>(
 ) -> Result<(), u8>
     ensures { OnOk result (LoadsAll line.now.loads.items session.old session.new) }
 {
+    let mut done = false;
     for load in &line.loads {
-        match read_file(rt, load.file()) {
-            Ok(text) => load_one(rt, session, load, &text, line.explains())?,
-            Err(fault) => return Err(report_file(rt, load.file(), &fault)),
+        match load {
+            Load::Tree(_) => load_file(rt, session, load, line.explains())?,
+            Load::Module(_) if done => {}
+            Load::Module(_) => {
+                load_modules(rt, session, line)?;
+                done = true;
+            }
         }
     }
     Ok(())
+}
+
+// Loads all modules as one step, at whose end they are checked.
+fn load_modules<M: Meaning>(
+    rt: &HostRuntime,
+    session: &mut Session<M>,
+    line: &CommandLine<'_>,
+) -> Result<(), u8>
+    ensures { OnOk result (LoadsModules (modules_of line.now.loads.items) session.old session.new) }
+{
+    if let Err(refusal) = session.begin() {
+        return Err(report_modules(rt, session, line, refusal));
+    }
+    set_modules(rt, session, line)?;
+    match session.commit() {
+        Ok(()) => Ok(()),
+        Err(refusal) => Err(report_modules(rt, session, line, refusal)),
+    }
+}
+
+// Sets all modules, in their order.
+fn set_modules<M: Meaning>(
+    rt: &HostRuntime,
+    session: &mut Session<M>,
+    line: &CommandLine<'_>,
+) -> Result<(), u8>
+    ensures { OnOk result (SetsAll (modules_of line.now.loads.items) session.old session.new) }
+{
+    for load in &line.loads {
+        match load {
+            Load::Module(_) => load_file(rt, session, load, line.explains())?,
+            Load::Tree(_) => {}
+        }
+    }
+    Ok(())
+}
+
+// Loads a file, and says what is wrong with it.
+fn load_file<M: Meaning>(
+    rt: &HostRuntime,
+    session: &mut Session<M>,
+    load: &Load<'_>,
+    explains: bool,
+) -> Result<(), u8>
+    ensures { OnOk result (LoadsFile load.now session.old session.new) }
+{
+    match read_file(rt, load.file()) {
+        Ok(text) => load_one(rt, session, load, &text, explains),
+        Err(fault) => Err(report_file(rt, load.file(), &fault)),
+    }
 }
 
 // Loads the text of a file, and says what is wrong with it.
@@ -181,16 +257,41 @@ fn load_one<M: Meaning>(
             }
             Ok(())
         }
-        Err(refusal) => {
-            let told = explains
-                && explain_load(rt.alloc(), rt.stderr(), session, load, text, &refusal);
-            let fault = FileFault::from(refusal);
-            Err(if told {
-                file_status(&fault)
-            } else {
-                report_file(rt, load.file(), &fault)
-            })
-        }
+        Err(refusal) => Err(report_load(rt, session, load, text, explains, refusal)),
+    }
+}
+
+// Prints why the text of a file is refused. Returns the exit status.
+fn report_load<M: Meaning>(
+    rt: &HostRuntime,
+    session: &Session<M>,
+    load: &Load<'_>,
+    text: &[u8],
+    explains: bool,
+    refusal: Refusal,
+) -> u8 {
+    let told = explains && explain_load(rt.alloc(), rt.stderr(), session, load, text, &refusal);
+    let fault = FileFault::from(refusal);
+    if told {
+        file_status(&fault)
+    } else {
+        report_file(rt, load.file(), &fault)
+    }
+}
+
+// Prints why the modules are refused together, with the file of the one that has the fault.
+fn report_modules<M: Meaning>(
+    rt: &HostRuntime,
+    session: &Session<M>,
+    line: &CommandLine<'_>,
+    refusal: Refusal,
+) -> u8 {
+    let Some(load) = load_at_fault(rt.alloc(), session, &line.loads, &refusal) else {
+        return report_file(rt, "--module", &FileFault::from(refusal));
+    };
+    match read_file(rt, load.file()) {
+        Ok(text) => report_load(rt, session, load, &text, line.explains(), refusal),
+        Err(fault) => report_file(rt, load.file(), &fault),
     }
 }
 
@@ -235,9 +336,7 @@ fn run_session<M: Meaning>(
     line: &CommandLine<'_>,
     session: &mut Session<M>,
     reason: &mut Option<io::Error>,
-) -> Result<Summary, RunFault>
-    requires { IsBudget line.now.budget }
-{
+) -> Result<Summary, RunFault> {
     let Ok(writer) = BufWriter::new(rt.alloc(), rt.stdout()) else {
         return Err(RunFault::Memory);
     };
@@ -259,9 +358,7 @@ fn run_input<M: Meaning, W: Write + Drop>(
     session: &mut Session<M>,
     line: &CommandLine<'_>,
     writer: W,
-) -> Result<Summary, RunFault>
-    requires { IsBudget line.now.budget }
-{
+) -> Result<Summary, RunFault> {
     let source = Counted::new(rt.stdin());
     let sink = Counted::new(writer);
     let at_terminal = rt.stdin().is_terminal() && rt.stderr().is_terminal();
@@ -286,7 +383,6 @@ fn run_between<M: Meaning, I: Source + Drop, O: Sink + Drop>(
     mut source: I,
     mut sink: O,
 ) -> Result<Summary, RunFault>
-    requires budget { IsBudget line.now.budget }
     requires source { I.failed source + 1 < 2 ^ 64 }
     requires sink { O.failed sink + 1 < 2 ^ 64 }
 {

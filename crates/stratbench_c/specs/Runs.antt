@@ -4,6 +4,7 @@ use Rattle.std.specs.declared.option.Option.{Option}
 use Rattle.prim_extended.specs.Extended.{extended}
 use Rattle.prim_extended.specs.ExtendedTable.{extended_signatures}
 use Rattle.session_history.specs.Budget.{IsBudget}
+use Rattle.session_history.specs.declared.TheConstants.{MAX_BUDGET}
 use Rattle.session_history.specs.History.{History, empty_history}
 use Rattle.script_text.specs.declared.framing.Framing.{Framing}
 use Rattle.script_text.specs.Handed.{Handed, handed}
@@ -58,8 +59,8 @@ RanAt framing steps script status None (Some new) = ⊥
 -- What a call does, by its number: nothing if the budget is out of range.
 abbrev pub TellsRun : Framing → ℕ → List ℕ → ℕ → Option Work → Option Work → Type 0
 TellsRun framing steps script code old new =
-    ((code ≡ NO_BUDGET) × (IsBudget steps → ⊥) × (new ≡ old))
-    ⊎ (IsBudget steps × ((status : Status) × (code ≡ code_of status) × RanAt framing steps script status old new))
+    ((code ≡ NO_BUDGET) × (IsBudget MAX_BUDGET steps → ⊥) × (new ≡ old))
+    ⊎ (IsBudget MAX_BUDGET steps × ((status : Status) × (code ≡ code_of status) × RanAt framing steps script status old new))
 
 -- what lies at a new handle
 abbrev pub IsNew : Option Work → Type 0

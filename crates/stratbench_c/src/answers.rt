@@ -1,7 +1,6 @@
 //! The answers of a call, in a buffer whose room stays for the next call.
 
 ghost use Rattle.std.specs.Prelude.{◌≡◌, ◌++◌, [], IfOk, OnOk, OnErr, IfErr, false, if◌then◌else◌};
-ghost use Rattle.session_history.specs.Budget.{IsBudget};
 ghost use Rattle.script_text.specs.Answer.{ReplyInRun, TellsRefusal};
 ghost use Rattle.script_text.specs.FedRight.{handed_out};
 ghost use Rattle.stratbench_c.specs.Loads.{Shows, Shown};
@@ -57,8 +56,8 @@ impl Answers {
         self.follows = false;
     }
 
-    /// Answers one more command, and returns whether it was accepted. `budget`, from 1 to 1,000,000,
-    /// is that of a command that names none. The observer sees the command and how it is answered.
+    /// Answers one more command, and returns whether it was accepted. `budget` is
+    /// that of a command that names none. The observer sees the command and how it is answered.
     ///
     /// Errors: if memory can't grow for the answers so far, the command isn't run, and all stays.
     pub fn add<M: Meaning, W: Watch<M>>(
@@ -69,7 +68,6 @@ impl Answers {
         budget: u32,
         watch: &mut W,
     ) -> Result<bool, NoMemory>
-        requires { IsBudget budget }
         ensures ok { IfOk result (λ accepted. Adds (ReplyInRun M.meaning budget) (handed_out command.entry)
             session.old session.new self.old self.new accepted) }
         ensures answers { OnErr result (self.new ≡ self.old) }

@@ -3,7 +3,6 @@
 ghost use Rattle.std.specs.Prelude.{◌≡◌, [], IfErr, IfOk, OnErr, OnOk};
 ghost use Rattle.prim_extended.specs.Extended.{extended};
 ghost use Rattle.prim_extended.specs.ExtendedTable.{extended_signatures};
-ghost use Rattle.session_history.specs.Budget.{IsBudget};
 ghost use Rattle.session_history.specs.History.{empty_history};
 ghost use Rattle.script_text.specs.Answer.{ReplyInRun, TellsRefusal};
 ghost use Rattle.script_text.specs.FedRight.{handed_out};
@@ -53,7 +52,6 @@ impl Work {
     /// Answers the commands of the script, in place of the answers of the last one. The last command
     /// ends with the script.
     pub fn run(&mut self, alloc: Global, script: &[u8], framing: Framing, steps: u32) -> Status
-        requires { IsBudget steps }
         ensures { Ran framing steps script.now result
             self.old.session self.old.answers self.new.session self.new.answers }
     {
@@ -84,7 +82,6 @@ impl Work {
 
     // Answers one more command.
     fn answer(&mut self, alloc: Global, command: Piece<'_>, steps: u32) -> Result<bool, NoMemory>
-        requires { IsBudget steps }
         ensures ok { IfOk result (λ accepted. Adds (ReplyInRun extended steps) (handed_out command.entry)
             self.old.session self.new.session self.old.answers self.new.answers accepted) }
         ensures answers { OnErr result (self.new.answers ≡ self.old.answers) }
@@ -149,7 +146,6 @@ fn run(bench: &mut Bench, script: &[u8], framing: Framing, steps: u32) -> u32
 }
 
 fn run_work(bench: &mut Bench, script: &[u8], framing: Framing, steps: u32) -> Status
-    requires { IsBudget steps }
     ensures { RanAt framing steps script.now result bench.old.work bench.new.work }
 {
     let alloc = bench.alloc;

@@ -65,7 +65,21 @@ returns-in-Ok-clause-number g c =
     let words : List Text = map g.S.AsStr.text c.args.words.now in
     let rows = rows_are _ words c.in_ok-matches.matches c.in_ok-matches.ensures.ok.2 c.in_ok-command.ensures in
     let text = one_text-rows (found_of c.in_ok-matches.matches) (codes "steps") ∙ ap (one_of (codes "steps")) rows in
-    λ t e. c.budget.ensures.number t (text ∙ e)
+    λ t e. c.number_of.ensures.number t (text ∙ e)
+
+pub returns-in-Ok-clause-max_steps : goal.returns-in-Ok-clause-max_steps
+returns-in-Ok-clause-max_steps g c =
+    let words : List Text = map g.S.AsStr.text c.args.words.now in
+    let rows = rows_are _ words c.in_ok-matches.matches c.in_ok-matches.ensures.ok.2 c.in_ok-command.ensures in
+    let text = one_text-rows (found_of c.in_ok-matches.matches) (codes "max-steps") ∙ ap (one_of (codes "max-steps")) rows in
+    λ t e. c.number_of-in-Ok.ensures.number t (text ∙ e)
+
+pub returns-in-Ok-clause-max_terms : goal.returns-in-Ok-clause-max_terms
+returns-in-Ok-clause-max_terms g c =
+    let words : List Text = map g.S.AsStr.text c.args.words.now in
+    let rows = rows_are _ words c.in_ok-matches.matches c.in_ok-matches.ensures.ok.2 c.in_ok-command.ensures in
+    let text = one_text-rows (found_of c.in_ok-matches.matches) (codes "max-terms") ∙ ap (one_of (codes "max-terms")) rows in
+    λ t e. c.number_of-in-Ok-2.ensures.number t (text ∙ e)
 
 pub returns-in-Ok-clause-file : goal.returns-in-Ok-clause-file
 returns-in-Ok-clause-file g c =
