@@ -55,8 +55,9 @@ uint32_t stratbench_module(void *handle, const uint8_t *name, size_t name_length
 uint32_t stratbench_tree(void *handle, const uint8_t *name, size_t name_length, const uint8_t *text, size_t length);
 
 /* Answers the commands of a script, which may go on over lines. The last one ends with the script. `steps`, from 1 to
- * 1,000,000, is the budget of an `apply` or `preview` that names none. Unless nothing is done, the answers take the place of
- * those of the last call. */
+ * 1,000,000, is the budget of an `apply` or `preview` that names none. The limits are those of the program by default: budgets of
+ * up to 1,000,000 steps, and terms of up to 100,000. Unless nothing is done, the answers take the place of those of the last
+ * call. */
 uint32_t stratbench_run(void *handle, const uint8_t *script, size_t length, uint32_t steps);
 
 /* The same, where each line is a command. */

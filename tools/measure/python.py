@@ -7,8 +7,8 @@ Run by hand at the top of the repository, after the program was built (README ha
 It needs Python and GNU time. Three refactorings are done on each module that the Python that runs it has. The visitors are those of
 `clients/python/tests/try_modules.py`; both sides begin with the parsed tree, and end with the new one. The converter's share
 is taken apart: to terms and their texts before, from the texts that differ after. Memory is the most that any process of a
-command took. At last the command does all modules in processes side by side, and on workers of a Dask cluster of this machine, with a
-Python that has `distributed`, where there is one.
+command took. Then the command does all modules in processes side by side, and on workers of a Dask cluster of this machine, with a
+Python that has `distributed`, where there is one. At last it does files of many lines, which are modules one after the other.
 """
 
 import os
@@ -33,6 +33,8 @@ from stratbench.patch import patch  # noqa: E402
 # Processes, and workers.
 COUNTS = (1, 2, 4)
 CALLS = 5_000
+# The least lines of long files.
+LINES = (5_000, 50_000)
 
 # The same refactoring by a visitor, of each file of a folder.
 VISITED = """
@@ -100,6 +102,7 @@ def main():
         print(f"| `{strategy}` | {sum(map(len, edits))} | {program:.1f} | {own:.1f} | {patching:.1f} | {visiting:.1f} |")
     print(f"\nThe program took at most {memory(texts):.0f} MB for the sixteen largest modules at a time.")
     side_by_side(contents)
+    long_files(contents)
     calls()
 
 
@@ -167,6 +170,24 @@ def side_by_side(contents):
         print(f"\n{largest}.")
         sent = sum(len(zlib.compress(it)) for it in contents) / len(contents)
         print(f"\nA file has {sum(map(len, contents)) / len(contents):,.0f} bytes, {sent:,.0f} as it is sent, and the client {len(cluster.packed()):,}, for each batch.")
+
+
+def long_files(contents):
+    """The whole command on long files."""
+    print("\n| A file of | bytes | terms | seconds by the clock | MB of its largest process |\n|---|---|---|---|---|")
+    for least in LINES:
+        some, lines = [], 0
+        for text in sorted(contents, key=len):
+            if lines < least and not text.startswith(b"\xef\xbb\xbf"):
+                some.append(text if text.endswith(b"\n") else text + b"\n")
+                lines += some[-1].count(b"\n")
+        text = b"".join(some)
+        terms_of = terms.size(python.Source(text).term)
+        with tempfile.TemporaryDirectory() as folder:
+            with open(f"{folder}/long.py", "wb") as it:
+                it.write(text)
+            taken, memory = command(sys.executable, folder)
+        print(f"| {lines:,} lines | {len(text):,} | {terms_of:,} | {taken:.1f} | {memory:.0f} |", flush=True)
 
 
 if __name__ == "__main__":

@@ -44,12 +44,14 @@ TermText = Union[str, Term]
 # A command is complete when the next begins. So the start of the next is sent with each: a carriage return and a blank, which
 # are skipped where a command follows them.
 _BEGINS: Final = "\r "
-# The most bytes of a command with that start, those of a part of a term that is longer, and the most steps of an `apply`.
+# The most bytes of a command with that start, and those of a part of a term that is longer.
 _MOST: Final = 65_536 - len(_BEGINS)
 _PART: Final = 50_000
-_MOST_STEPS: Final = 1_000_000
-# The budget of an `apply` that names none, as the program has it.
+# As the program has them where nothing is given: the budget of an `apply` that names none, the greatest budget, and the greatest
+# size of a term.
 _STEPS: Final = 100_000
+_MOST_STEPS: Final = 1_000_000
+_MOST_TERMS: Final = 100_000
 
 
 class Refused(Exception):
@@ -118,8 +120,20 @@ class Stratbench:
     `options` are further words of the command line, as `["--tree", "t=in.aterm"]`. It can be a context manager, which
     closes it.
 
-    An `embedded` session takes no options and no `seconds`, and isn't stopped by Ctrl-C. The shared object is `program`, or
-    what the environment's STRATBENCH_LIBRARY names, or `libstratbench.so`. It is used by one thread at a time.
+    `max_steps` is the greatest budget, from 1,000,000, which it is by default, to 4,000,000,000, and `max_terms` the greatest
+    size of a term that is loaded or built, from 100,000, which it is by default, to 1,000,000,000. With others the program ends
+    at once.
+
+        >>> bench = Stratbench(max_steps=2_000_000, max_terms=131_071)
+        >>> bench.module("m", "rules Twice : x -> (x,x)")
+        >>> bench.tree("t", "a")
+        >>> bench.apply("t", "; ".join(["Twice"] * 16), within=2_000_000)
+        >>> bench.show("t", at=[1] * 16)
+        'a'
+
+    An `embedded` session takes no options and no `seconds`, keeps the limits by default, and isn't stopped by Ctrl-C. The shared
+    object is `program`, or what the environment's STRATBENCH_LIBRARY names, or `libstratbench.so`. It is used by one thread at a
+    time.
 
     A call that takes more than `seconds` raises `TimeoutError`, and ends the session; the attribute may be changed. What the
     program says of an accepted command, as the warnings of a module, is in `warnings` until the next command. With the option
@@ -144,6 +158,8 @@ class Stratbench:
         program: str | None = None,
         seconds: float | None = None,
         embedded: bool = False,
+        max_steps: int | None = None,
+        max_terms: int | None = None,
     ) -> None:
         self.seconds = seconds
         self.warnings: list[str] = []
@@ -153,12 +169,15 @@ class Stratbench:
         if embedded:
             if options or seconds is not None:
                 raise ValueError("an embedded session takes no options and no seconds")
+            if max_steps not in (None, _MOST_STEPS) or max_terms not in (None, _MOST_TERMS):
+                raise ValueError(f"an embedded session keeps the limits by default: {_MOST_STEPS:,} steps and {_MOST_TERMS:,} terms")
             path = program or os.environ.get("STRATBENCH_LIBRARY") or "libstratbench.so"
-            self._process = Embedded(path, library, steps or _STEPS)
+            self._process = Embedded(path, library, _STEPS if steps is None else steps)
             return
         words = [program or os.environ.get("STRATBENCH") or "stratbench", *options]
-        words += ["--explain"] * ("--explain" not in options)
-        words += ["--library"] * library + (["--steps", str(steps)] if steps else [])
+        words += ["--explain"] * ("--explain" not in options) + ["--library"] * library
+        numbers = {"steps": steps, "max-steps": max_steps, "max-terms": max_terms}
+        words += [f"--{option}={number}" for option, number in numbers.items() if number is not None]
         self._process = Process(words)
         self._answer("history")
 

@@ -26,6 +26,8 @@ from .patch import Edit
 _CONTEXT: Final = 3
 # Texts with more lines that differ aren't compared to the last one.
 _MOST_DIFFERING: Final = 400
+# A run of so many lines isn't compared together with the next: the time would grow with the square of its length.
+_MOST_TOGETHER: Final = 400
 
 
 def unified(name: str, text: bytes, edits: Sequence[Edit]) -> bytes:
@@ -74,7 +76,7 @@ def _changes(text: bytes, lines: list[bytes], edits: Sequence[Edit]) -> list[tup
             new += lines[end]
             end += 1
         others = re.findall(rb"[^\n]*\n|[^\n]+", new)
-        if found and first - found[-1][1] <= 2 * _CONTEXT:
+        if found and first - found[-1][1] <= 2 * _CONTEXT and found[-1][1] - found[-1][0] < _MOST_TOGETHER:
             # what is shown together is compared as one, since lines may have moved from one run to the other
             begin, last, before = found.pop()
             first, others = begin, [*before, *lines[last:first], *others]
@@ -142,9 +144,10 @@ def _way_back(before: list[dict[int, int]], one: int, two: int) -> list[tuple[in
 
 # The line after the last one that an edit touches.
 def _line_after(starts: list[int], edit: Edit) -> int:
-    if edit.last > edit.first and edit.last in starts[1:] and (not edit.text or edit.text.endswith(b"\n")):
-        return starts.index(edit.last)
-    return min(bisect_right(starts, edit.last), len(starts) - 1)
+    after = bisect_right(starts, edit.last)
+    if edit.first < edit.last == starts[after - 1] and (not edit.text or edit.text.endswith(b"\n")):
+        return after - 1
+    return min(after, len(starts) - 1)
 
 
 def _hunk(out: list[bytes], lines: list[bytes], group: list[tuple[int, int, list[bytes]]], shift: int) -> int:

@@ -33,14 +33,15 @@ from .python import Source, deep, position
 from .terms import at as subterm
 from .terms import LIST, NoTerm, Term, exchange, height, read, size, write
 
-# The bounds of the workbench: terms of a tree that is read, levels, steps of a command.
-MOST_TERMS: Final = 100_000
+# The bounds of the workbench: levels, which are fixed, and what it is started with for terms and steps.
 MOST_LEVELS: Final = 1_000
-MOST_STEPS: Final = 1_000_000
+MOST_TERMS: Final = 10_000_000
+MOST_STEPS: Final = 4_000_000_000
+# The budget where none is given, a term of the file, and the least: a traversal with four rules takes some 20 steps a term, and a strategy
+# that doesn't end is stopped soon.
+_STEPS_A_TERM: Final = 300
+_LEAST_STEPS: Final = 1_000_000
 
-# Refusals after which a module is given in parts: the steps are spent, or a term is too big.
-_IN_PARTS: Final = (13, 14)
-_FAILS: Final = 12
 # The most files that a process of the workbench does, and their most bytes where there are more files. Where processes run side by
 # side, each gets so many of such batches at least, if there are the files, so that all end at about the same time.
 _BATCH: Final = 16
@@ -51,12 +52,12 @@ _OF_TEXTS: Final = (2, 3, 8, 10, 11)
 
 
 class Task(NamedTuple):
-    """What is done to each file: the modules that are loaded, by name and text, the strategy, and its budget. `files` are the
+    """What is done to each file: the modules that are loaded, by name and text, the strategy, and its budget, or none for one that goes with the file's size. `files` are the
     names of the modules' files for what is said of them. `keep_comments` leaves places alone where a comment would be lost."""
 
     modules: tuple[tuple[str, bytes], ...]
     strategy: str
-    within: int = MOST_STEPS
+    within: int | None = None
     program: str | None = None
     files: tuple[str, ...] = ()
     keep_comments: bool = False
@@ -82,29 +83,24 @@ class Result(NamedTuple):
 
     new: Term | None
     places: tuple[tuple[int, ...], ...] = ()
-    in_parts: bool = False
     left: str = ""
     of_texts: bool = False
     warnings: tuple[str, ...] = ()
 
 
 class _Refused(Exception):
-    """A preview that was refused, at a path of a tree. Why is asked for later."""
+    """A preview of a tree that was refused. Why is asked for later."""
 
-    def __init__(self, answer: str, tree: Term, path: tuple[int, ...], before: str = "") -> None:
+    def __init__(self, answer: str, tree: Term) -> None:
         super().__init__(answer)
-        self.number, self.tree, self.path, self.before = int(answer.split()[1]), tree, path, before
+        self.number, self.tree = int(answer.split()[1]), tree
 
 
 class NoProgram(OSError):
     """The program can't be run."""
 
 
-class _Left(Exception):
-    pass
-
-
-class _Ended(_Left):
+class _Ended(Exception):
     """The program ended before it answered, as where a module is refused."""
 
 
@@ -195,39 +191,29 @@ def _diff(name: str, source: Source, edits: Sequence[Edit]) -> bytes:
 
 def transformed(sources: Sequence[Source], task: Task) -> list[Result]:
     """Returns the trees that the strategy gives for those of the sources."""
-    found: dict[int, Result] = {}
-    whole: list[int] = []
-    parts: dict[int, _Refused | None] = {}
     with deep(), tempfile.TemporaryDirectory(prefix="stratbench-") as room:
+        found = {at: Result(None, left=why) for at, it in enumerate(sources) if (why := _too_large(it.term))}
+        given = {at: it.term for at, it in enumerate(sources) if at not in found}
         bench = _Bench(room, task)
-        for at, source in enumerate(sources):
-            levels = height(source.term)
-            if levels > MOST_LEVELS:
-                found[at] = Result(None, left=f"too deep: {levels} levels, and a tree has at most {MOST_LEVELS}")
-            elif size(source.term) > MOST_TERMS:
-                parts[at] = None
-            else:
-                whole.append(at)
         refused: dict[int, _Refused] = {}
         try:
-            for at, result in zip(whole, bench.previews([sources[at].term for at in whole], [(it, ()) for it in range(len(whole))])):
+            for (at, term), result in zip(given.items(), bench.previews(list(given.values()))):
                 if isinstance(result, dict):
-                    found[at] = Result(exchange(sources[at].term, result), tuple(result))
-                elif result.number in _IN_PARTS:
-                    parts[at] = result
+                    found[at] = Result(exchange(term, result), tuple(result))
                 else:
                     refused[at] = result
         except _Ended as error:
-            found.update((at, Result(None, left=str(error), of_texts=True)) for at in whole)
-        for at, before in parts.items():
-            try:
-                found[at] = _in_parts(sources[at], bench, before)
-            except _Left as error:
-                found[at] = Result(None, left=str(error), of_texts=isinstance(error, _Ended))
-            except _Refused as error:
-                refused[at] = error
+            found.update((at, Result(None, left=str(error), of_texts=True)) for at in given)
         found.update(_results(bench, refused))
     return [found[at] for at in range(len(sources))]
+
+
+# Why a tree can't be given, if it can't.
+def _too_large(term: Term) -> str:
+    levels, terms = height(term), size(term)
+    if levels > MOST_LEVELS:
+        return f"too deep: {levels:,} levels, and a tree has at most {MOST_LEVELS:,}"
+    return f"too large: {terms:,} terms, and a tree has at most {MOST_TERMS:,}" if terms > MOST_TERMS else ""
 
 
 # Why previews were refused.
@@ -236,49 +222,7 @@ def _results(bench: _Bench, refused: dict[int, _Refused]) -> Iterator[tuple[int,
     yield from ((at, Result(None, left=str(it), of_texts=True)) for at, it in of_texts.items())
     others = {at: it for at, it in refused.items() if at not in of_texts}
     said, warnings = bench.explained(list(others.values()))
-    for (at, it), why in zip(others.items(), said):
-        yield at, Result(None, left=it.before + why, warnings=warnings)
-
-
-# The tree where the strategy is applied to each statement of the module by itself. One for which it fails stays.
-def _in_parts(source: Source, bench: _Bench, whole: _Refused | None) -> Result:
-    body = source.term.children[0]
-    trees: list[Term] = []
-    places: list[tuple[int, tuple[int, ...]]] = []
-    group: list[Term] = []
-    terms = 0
-    for statement in body.children:
-        count = size(statement)
-        if count >= MOST_TERMS:
-            raise _Left(f"too large: {_line_of(source, statement)} is a statement of {count} terms, and a tree has at most {MOST_TERMS}")
-        if terms + count >= MOST_TERMS:
-            trees.append(Term(LIST, tuple(group)))
-            group, terms = [], 0
-        places.append((len(trees), (len(group),)))
-        group.append(statement)
-        terms += count
-    trees.append(Term(LIST, tuple(group)))
-    new: dict[tuple[int, ...], Term] = {}
-    refused: _Refused | None = whole
-    done = 0
-    for at, (result, (_, path)) in enumerate(zip(bench.previews(trees, places), places)):
-        if isinstance(result, _Refused):
-            if result.number != _FAILS:
-                result.before = f"{_line_of(source, body.children[at])}: "
-                raise result
-            refused = refused or result
-            continue
-        done += 1
-        for place, term in result.items():
-            new[(0, at, *place[len(path) :])] = term
-    if not done and refused is not None:
-        raise refused
-    return Result(exchange(source.term, new), tuple(new), in_parts=True)
-
-
-def _line_of(source: Source, statement: Term) -> str:
-    place = position(statement)
-    return f"line {source.lines.number(place[0])}" if place else "a statement"
+    yield from ((at, Result(None, left=why, warnings=warnings)) for at, why in zip(others, said))
 
 
 class _Bench:
@@ -291,7 +235,7 @@ class _Bench:
     def __init__(self, room: str, task: Task) -> None:
         self.room, self.task = room, task
         self.program = task.program or os.environ.get("STRATBENCH") or "stratbench"
-        self.words = ["--library"]
+        self.words = ["--library", f"--max-terms={MOST_TERMS}", f"--max-steps={MOST_STEPS}"]
         for at, (name, text) in enumerate(task.modules):
             file = f"{room}/{at}.str"
             with open(file, "wb") as it:
@@ -315,24 +259,20 @@ class _Bench:
             said = said.replace(f"{self.room}/{at}.str", name)
         return _Ran(ran.returncode, ran.stdout.split(b"\n"), said)
 
-    def previews(
-        self, trees: list[Term], places: list[tuple[int, tuple[int, ...]]], strategies: Sequence[str] = ()
-    ) -> list[dict[tuple[int, ...], Term] | _Refused]:
-        """Previews the task's strategy at these places, each in a tree by its number and at a path; or one for each place."""
-        if not places:
+    def previews(self, trees: Sequence[Term], strategies: Sequence[str] = ()) -> list[dict[tuple[int, ...], Term] | _Refused]:
+        """Previews the task's strategy on these trees; or one for each tree."""
+        if not trees:
             return []
-        given = strategies or [self.task.strategy] * len(places)
-        commands = self.commands([f"t{tree} at {_written(path)}" for tree, path in places], given)
-        ran = self.run("".join(f"{it.sent}\n" for it in commands), trees)
-        if ran.status not in (0, 1) or len(ran.lines) <= len(places):
+        ran = self.run(_script(self.commands(trees, strategies)), trees)
+        if ran.status not in (0, 1) or len(ran.lines) <= len(trees):
             raise _Ended(re.sub(r"^stratbench: (/\S+: )?", "", ran.said.strip()) or f"{self.program} ended with status {ran.status}")
         found: list[dict[tuple[int, ...], Term] | _Refused] = []
         at = 0
-        for tree, path in places:
+        for tree in trees:
             answer = ran.lines[at].decode(errors="replace")
             at += 1
             if answer.startswith("refused "):
-                found.append(_Refused(answer, trees[tree], path))
+                found.append(_Refused(answer, tree))
                 continue
             count = int(answer.split()[1])
             found.append(dict(_replacement(line) for line in ran.lines[at : at + count]))
@@ -343,18 +283,25 @@ class _Bench:
         """Returns the refusals with why, and the warnings of the modules."""
         if not refused:
             return [], ()
-        commands = self.commands([f"t{at} at {_written(it.path)}" for at, it in enumerate(refused)], [self.task.strategy] * len(refused))
-        ran = self.run("".join(f"{it.sent}\n" for it in commands), [it.tree for it in refused], explain=True)
+        trees = [it.tree for it in refused]
+        commands = self.commands(trees)
+        ran = self.run(_script(commands), trees, explain=True)
         said = _explanations(ran.said)
         return [it.explained(said.get(it.line, str(one)))[0] for it, one in zip(commands, refused)], _warnings(ran.said)
 
-    def commands(self, places: Sequence[str], strategies: Sequence[str], line: int = 1) -> list[Command]:
-        """The previews of these strategies at these places, from this line of a script on."""
+    def commands(self, trees: Sequence[Term], strategies: Sequence[str] = ()) -> list[Command]:
+        """The previews of the task's strategy, or of these, on these trees."""
         found: list[Command] = []
-        for place, strategy in zip(places, strategies):
-            found.append(Command(f"preview {place} within {self.task.within} do ", Text(strategy), line, 0))
+        line = 1
+        for at, (tree, strategy) in enumerate(zip(trees, strategies or repeat(self.task.strategy))):
+            within = self.task.within or max(_LEAST_STEPS, _STEPS_A_TERM * size(tree))
+            found.append(Command(f"preview t{at} within {within} do ", Text(strategy), line, 0))
             line += found[-1].sent.count("\n") + 1
         return found
+
+
+def _script(commands: Iterable[Command]) -> str:
+    return "".join(f"{it.sent}\n" for it in commands)
 
 
 class _Ran(NamedTuple):
@@ -363,10 +310,6 @@ class _Ran(NamedTuple):
     status: int
     lines: list[bytes]
     said: str
-
-
-def _written(path: Iterable[int]) -> str:
-    return "/" + "/".join(map(str, path))
 
 
 # A line of a preview: the path, and the term that would be there.
@@ -401,11 +344,12 @@ def check_texts(task: Task) -> tuple[str, tuple[str, ...]]:
     """Returns what is wrong with the modules, or with the strategy whatever its tree is; nothing where nothing is. And their warnings."""
     with tempfile.TemporaryDirectory(prefix="stratbench-") as room:
         bench = _Bench(room, task)
-        [command] = bench.commands(["t"], [task.strategy], line=2)
-        ran = bench.run(f"tree t Module([],[])\n{command.sent}\n", explain=True)
-    if len(ran.lines) < 3:
+        empty = read("Module([],[])")
+        [command] = bench.commands([empty])
+        ran = bench.run(_script([command]), [empty], explain=True)
+    if len(ran.lines) < 2:
         return ran.said.strip() or f"{bench.program} ended with status {ran.status}", ()
-    answer = ran.lines[1].decode(errors="replace")
+    answer = ran.lines[0].decode(errors="replace")
     if answer.startswith("refused ") and int(answer.split()[1]) in _OF_TEXTS:
         return "--do: " + command.explained(_explanations(ran.said).get(command.line, answer))[0], _warnings(ran.said)
     return "", _warnings(ran.said)
@@ -510,7 +454,7 @@ def _arguments(words: Sequence[str] | None) -> argparse.Namespace:
     parser.add_argument("--module", action="append", default=[], metavar="NAME=FILE", help="load a module of strategies")
     parser.add_argument("--modules", action="append", default=[], metavar="FOLDER", help="load the modules of a folder, as strategies")
     parser.add_argument("--do", required=True, metavar="STRATEGY", help="the strategy that is applied to each file's tree")
-    parser.add_argument("--within", type=int, default=MOST_STEPS, metavar="K", help="the most steps that it may take")
+    parser.add_argument("--within", type=int, metavar="K", help="the most steps that it may take, else 300 a term, and 1,000,000 at least")
     parser.add_argument("--keep-comments", action="store_true", help="leave places as they are where a comment would be lost")
     where = parser.add_mutually_exclusive_group()
     where.add_argument("--jobs", type=int, default=1, metavar="N", help="do the files in N processes side by side")
@@ -521,7 +465,7 @@ def _arguments(words: Sequence[str] | None) -> argparse.Namespace:
     how.add_argument("--check", action="store_true", help="end with status 1 where something would change")
     parser.add_argument("files", nargs="+", metavar="FILES", help="files, or folders with files *.py in them")
     found = parser.parse_args(words)
-    if found.jobs < 1 or not 1 <= found.within <= MOST_STEPS:
+    if found.jobs < 1 or found.within is not None and not 1 <= found.within <= MOST_STEPS:
         parser.error(f"--jobs is at least 1, and --within from 1 to {MOST_STEPS}")
     return found
 

@@ -136,6 +136,19 @@ def _with(term, path, new):
     return Term(term.head, tuple(children), term.annotations)
 
 
+def limits():
+    with Stratbench(steps=1_500_000, max_steps=2_000_000, max_terms=1_000_000) as bench:
+        bench.tree("t", items(*map(Term, range(200_000))))
+        bench.apply("t", "rec x([] <+ [id|x])")
+        bench.apply("t", "id", within=2_000_000)
+        yield "raised limits", "" if bench.show("t", (199_999,)) == "199999" else bench.show("t")[-80:]
+        try:
+            bench.apply("t", "id", within=2_000_001)
+            yield "a budget above them", "it was taken"
+        except Refused as refused:
+            yield "a budget above them", "" if "from 1 to 2000000" in str(refused) else str(refused)
+
+
 def ends():
     with tempfile.TemporaryDirectory() as room:
         with open(f"{room}/wrong.str", "w") as it:
@@ -144,7 +157,9 @@ def ends():
             ({"options": ["--tree", "t=/none"]}, 3, "read fault: /none\n    No such file or directory (os error 2)"),
             ({"options": ["--module", f"m={room}/wrong.str"]}, 1, "no module goes on with `)` at line 2, column 8\n      A : x) -> x\n           ^"),
             ({"options": ["--none"]}, 2, "--none"),
-            ({"steps": 2_000_000}, 2, "2000000"),
+            ({"steps": 2_000_000}, 2, "'2000000' for '--steps <N>': 2000000 is not in 1..=1000000"),
+            ({"max_steps": 999_999}, 2, "'999999' for '--max-steps <N>': 999999 is not in 1000000..=4000000000"),
+            ({"max_terms": -1}, 2, "'-1' for '--max-terms <N>': -1 is not in 100000..=1000000000"),
         ]  # fmt: skip
         for given, status, said in starts:
             try:
@@ -227,5 +242,6 @@ def tests(top, everything):
     yield from explained()
     yield from all_parts()
     yield from long_texts()
+    yield from limits()
     yield from ends()
     yield from stops()

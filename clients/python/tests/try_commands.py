@@ -220,19 +220,24 @@ def half_written(top):
 
 def bounds(top):
     room = Room(top, a=A)
-    room.put("wide.py", f"a = [{', '.join(['1'] * 30_000)}]\n")
-    yield "a statement that is too large", wanted(room.run("wide.py", "a.py"), 3, HUNK, "wide.py: too large: line 1 is a statement of")
     room.put("deep.py", " + ".join(["a"] * 1_500) + "\n")
-    yield "a tree that is too deep", wanted(room.run("deep.py", "a.py"), 3, HUNK, "deep.py: ")
-    room.put("long.py", "x = 1\n" * 5_000 + "old\n" + "x = 1\n" * 3_000)
-    got = room.run("--write", "long.py")
-    new = "x = 1\n" * 5_000 + "new\n" + "x = 1\n" * 3_000
-    yield "a module that is too large is given in parts", wanted(got, 0) or ("" if room.has("long.py") == new else "another text")
+    yield "a tree that is too deep", wanted(room.run("deep.py", "a.py"), 3, HUNK, "deep.py: too deep: ")
+    most, refactor.MOST_TERMS = refactor.MOST_TERMS, 20
+    [outcome] = refactor.refactored([("a.py", b"x = y + 1\n")], refactor.Task((), "id"))
+    refactor.MOST_TERMS = most
+    yield "a tree that is too large", "" if outcome.left.startswith("a.py: too large: ") else f"{outcome}"
+    # the limits by default are 100,000 terms and 1,000,000 steps
+    room.put("wide.py", f"a = [{', '.join(['1'] * 30_000)}, old]\n")
+    got = room.run("--write", "wide.py")
+    yield "a statement of 180,000 terms", wanted(got, 0) or ("" if room.has("wide.py").endswith(" 1, new]\n") else "another text")
+    room.put("long.py", '"""doc"""\n\n' + "x = 1\n" * 8_000 + "old\n")
+    modules = ["--modules", f"{top}/strategies", "--module", "rules=rules.str"]
+    got = room.run("--write", "long.py", strategy=f'{EVERY}; add-import(|"re")', modules=modules)
+    new = '"""doc"""\n\nimport re\n\n' + "x = 1\n" * 8_000 + "new\n"
+    yield "a module of 100,000 terms, seen as a whole", wanted(got, 0) or ("" if room.has("long.py") == new else room.has("long.py")[:100])
     room.put("steps.py", "x = f(1, 2, 3)\n" * 10 + "old\n")
-    got = room.run("--within", "500", "--write", "steps.py")
-    new = "x = f(1, 2, 3)\n" * 10 + "new\n"
-    yield "a module whose steps are spent is given in parts", wanted(got, 0) or ("" if room.has("steps.py") == new else "another text")
-    got = room.run("--within", "50", "steps.py")
-    yield "a statement whose steps are spent", wanted(got, 3, "", "steps.py: line 1: refused 13 spent: ")
+    yield "a budget", wanted(room.run("--within", "500", "steps.py"), 3, "", "steps.py: refused 13 spent: the 500 steps of the budget are used up")
+    yield "the budget of a short file", wanted(room.run("a.py", strategy="repeat(id)"), 3, "", "a.py: refused 13 spent: the 1000000 steps of the budget are used up")
+    yield "a budget out of range", "" if refactor_status(top, ["--within", "4000000001", "--do", "id", "a.py"]) == 2 else "another status"
     got = room.run("steps.py", "a.py", strategy="?Module(x,y); !Module(y,x); fail")
     yield "a strategy that fails", wanted(got, 3, "", "a.py: refused 12 fails: ")

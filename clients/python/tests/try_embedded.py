@@ -13,7 +13,7 @@ from stratbench import Ended, Refused, Stratbench
 
 EMBEDDED = functools.partial(Stratbench, embedded=True)
 # What an embedded session doesn't take.
-OTHER = ("options=", "seconds=")
+OTHER = ("options=", "seconds=", "max_steps=")
 
 
 def examples():
@@ -43,7 +43,7 @@ def ends():
         except Refused as refused:
             yield "a refusal", "" if refused.explanation == "there is no tree `t`\n    there are no trees" else str(refused)
     yield "the status after a refusal", "" if bench.close() == 1 else f"{bench.close()}"
-    for given in ({"steps": 2_000_000}, {"options": ["--lines"]}, {"seconds": 1}):
+    for given in ({"steps": 2_000_000}, {"options": ["--lines"]}, {"seconds": 1}, {"max_steps": 2_000_000}, {"max_terms": 200_000}):
         try:
             EMBEDDED(**given).trees()
             yield f"a start with {list(given)}", "it began"

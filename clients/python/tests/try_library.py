@@ -65,8 +65,8 @@ def tests(top, everything):
     sources = [python.Source(source.encode()) for _, source, _ in CASES + NAMES]
     with tempfile.TemporaryDirectory() as room:
         bench = refactor._Bench(room, task)
-        places = [(at, ()) for at in range(len(CASES))] + [(len(CASES) + at, (0, 0)) for at in range(len(NAMES))]
-        results = bench.previews([it.term for it in sources], places, [it[0] for it in CASES + NAMES])
+        strategies = [it[0] for it in CASES] + [f"Module([{it[0]}],id)" for it in NAMES]
+        results = bench.previews([it.term for it in sources], strategies)
     for (strategy, _, wanted), source, result in zip(CASES, sources, results):
         got = patched(source, refactor.exchange(source.term, result)).decode() if isinstance(result, dict) else None
         first = source.text.decode().split("\n")[0]

@@ -141,13 +141,10 @@ def undone(task, sources, results):
             with open(f"{room}/{at}", "w") as it:
                 it.write(terms.write(source.term))
             options += ["--tree", f"t{at}={room}/{at}"]
-        with Stratbench(library=True, options=options) as bench:
+        limits = {"max_steps": refactor.MOST_STEPS, "max_terms": refactor.MOST_TERMS}
+        with Stratbench(library=True, options=options, **limits) as bench:
             for at, (source, result) in enumerate(zip(sources, results)):
-                with bench.group():
-                    # in parts it is one step, too
-                    paths = [f"/0/{it}" for it in range(len(source.term.children[0].children))] if result.in_parts else ["/"]
-                    for path in paths:
-                        bench.apply(f"t{at}", task.strategy, at=path, within=1_000_000)
+                bench.apply(f"t{at}", task.strategy, within=refactor.MOST_STEPS)
                 applied = bench.show(f"t{at}")
                 bench.undo()
                 if terms.read(applied) != result.new:

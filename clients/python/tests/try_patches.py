@@ -184,8 +184,7 @@ def cases(top):
     sources = [python.Source(source.encode()) for _, source, _, _ in CASES]
     with tempfile.TemporaryDirectory() as room:
         bench = refactor._Bench(room, task)
-        places = [(at, ()) for at in range(len(sources))]
-        results = bench.previews([it.term for it in sources], places, [it[2] for it in CASES])
+        results = bench.previews([it.term for it in sources], [it[2] for it in CASES])
     for (title, _, _, wanted), source, result in zip(CASES, sources, results):
         yield title, source, result, wanted
 

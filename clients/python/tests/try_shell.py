@@ -8,6 +8,7 @@ import sys
 import tempfile
 
 from packages import interpreter
+from stratbench.shell.session import Again, Session
 from terminals import Terminal, Unlike
 
 RULES = """module arith
@@ -276,6 +277,27 @@ def piped(top):
     return "" if (ran.returncode, ran.stdout, ran.stderr) == (0, wanted, "") else f"{ran}"
 
 
+def limits(top):
+    """The options for limits hold, also of a session that is made again."""
+    environment = {**os.environ, "PYTHONPATH": f"{top}/clients/python"}
+    script = "tree t a\napply t within 2000000 do !1\napply t within 2000001 do !1\n"
+    words = [sys.executable, "-m", "stratbench", "--max-steps", "2000000", "--max-terms", "131071"]
+    ran = subprocess.run(words, env=environment, input=script, capture_output=True, text=True)
+    if not re.fullmatch(r"ok\nok\nrefused 2 line: .*from 1 to 2000000\n(?s:.*)", ran.stdout):
+        return f"{ran}"
+    session = Session(print, max_steps=2_000_000, max_terms=131_071)
+    session.run("module m rules Twice : x -> (x,x)")
+    session.run("tree t a")
+    os.kill(session.bench._process._ran.pid, signal.SIGKILL)
+    try:
+        session.run("trees")
+        return "it wasn't made again"
+    except Again:
+        found = session.run("apply t within 2000000 do " + "; ".join(["Twice"] * 16))
+        profile = session.profile("preview t within 2000000 do id")
+    return "" if found == "ok" and profile.startswith("1 step") else f"{found} {profile}"
+
+
 def replaced(it, folder):
     """The program is gone for a while."""
     it.see(r"^> ?$")
@@ -338,6 +360,7 @@ def cut(it, folder):
 
 def tests(top, everything):
     yield "a script on standard input", piped(top)
+    yield "options for limits", limits(top)
     environment = {**os.environ, "PYTHONPATH": f"{top}/clients/python"}
     ran = subprocess.run([sys.executable, "-m", "stratbench", "--program", "/none"], env=environment, capture_output=True, text=True)
     yield "no program", "" if ran.returncode == 2 and "/none" in ran.stderr and not ran.stdout else f"{ran}"

@@ -1,6 +1,6 @@
 """The shell: a session of the workbench at a terminal.
 
-    python -m stratbench [--no-library] [--steps N] [--program FILE] [FILES..]
+    python -m stratbench [--no-library] [--steps N] [--max-steps N] [--max-terms N] [--program FILE] [FILES..]
 
 A line is a command of the workbench, or one of the shell's own, which begins with a colon; `:help` lists these.
 `docs/manual/shell.md` is the manual.
@@ -25,6 +25,8 @@ def _arguments(words: Sequence[str] | None) -> argparse.Namespace:
     parser = argparse.ArgumentParser(prog="python -m stratbench", description="A shell for the workbench stratbench.")
     parser.add_argument("--no-library", action="store_true", help="don't load the library of traversals")
     parser.add_argument("--steps", type=int, metavar="N", help="the budget of an apply that names none")
+    parser.add_argument("--max-steps", type=int, metavar="N", help="the greatest budget, from 1,000,000 to 4,000,000,000")
+    parser.add_argument("--max-terms", type=int, metavar="N", help="the greatest size of a term, from 100,000 to 1,000,000,000")
     parser.add_argument("--program", metavar="FILE", help="stratbench, where it isn't in PATH or STRATBENCH")
     parser.add_argument("files", nargs="*", metavar="FILES", help="modules and trees to load, as :load does")
     return parser.parse_args(words)
@@ -65,8 +67,9 @@ def main(words: Sequence[str] | None = None) -> int:
     """Runs the shell, and returns its status."""
     given = _arguments(words)
     signal.signal(signal.SIGINT, signal.default_int_handler)
+    limits = {"steps": given.steps, "max_steps": given.max_steps, "max_terms": given.max_terms}
     try:
-        session = Session(_say, library=not given.no_library, steps=given.steps, program=given.program)
+        session = Session(_say, library=not given.no_library, program=given.program, **limits)
     except OSError as error:
         print(f"{error.filename}: {error.strerror}; STRATBENCH or --program names the program", file=sys.stderr)
         return 2

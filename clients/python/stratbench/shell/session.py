@@ -11,7 +11,6 @@ from typing import Any, Final, Literal, NamedTuple, TypeVar
 
 from .. import Ended, Refused, Stratbench
 from ..terms import Term
-from .syntax import of_script
 
 # The commands that are steps, those of trees and others, and all that change a session.
 _OF_TREES: Final = ("tree", "copy", "drop", "put", "annotate", "apply")
@@ -50,6 +49,10 @@ class Loaded(NamedTuple):
 
 class RefusedFile(Exception):
     """A file that was refused when it was loaded, and why."""
+
+
+def _contents(bench: Stratbench) -> _Contents:
+    return {it: bench.term(it) for it in bench.trees()}, {it: bench.text(it) for it in bench.modules()}
 
 
 # How the program has ended.
@@ -134,13 +137,10 @@ class Session:
         if self.group is not None or not self.done:
             raise Refusal("a group is open" if self.done else "there is no step")
 
-        def contents(bench: Stratbench) -> _Contents:
-            return {it: bench.term(it) for it in bench.trees()}, {it: bench.text(it) for it in bench.modules()}
-
         def both(bench: Stratbench) -> tuple[_Contents, _Contents]:
-            now = contents(bench)
+            now = _contents(bench)
             bench.undo()
-            before = contents(bench)
+            before = _contents(bench)
             bench.redo()
             return before, now
 
@@ -165,11 +165,14 @@ class Session:
 
     def profile(self, command: str) -> str:
         """Returns where the steps of a `preview` go. It runs in a session of its own, with the trees and modules of this one."""
-        script = self.ask(lambda it: it.run("dump")).splitlines(keepends=True)
+        trees, modules = self.ask(_contents)
         options = [*self._start.get("options", ()), "--profile"]
         with Stratbench(**{**self._start, "library": False, "options": options}) as bench:
-            for it in of_script(script):
-                bench.run(it)
+            for name, tree in trees.items():
+                bench.tree(name, tree)
+            with bench.group():
+                for name, text in modules.items():
+                    bench.module(name, text)
             bench.run(command)
             return "\n".join(bench.warnings)
 
