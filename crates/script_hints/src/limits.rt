@@ -4,9 +4,9 @@ use crate::explainer::Explainer;
 use aterm_text::{MAX_NESTING, nesting, read, read_annotations};
 use hint_text::{Fill, say, token_of};
 use script_text::MAX_COMMAND;
-use session_history::{Refusal, Timeline};
+use session_history::{MOST_STEPS, Refusal, Timeline};
 use strategy_tokens::{MAX_TOKENS, token_count};
-use term_core::{MAX_HEIGHT, NoMemory, Term};
+use term_core::{MAX_HEIGHT, MAX_ROOM, NoMemory, Term};
 use term_paths::read_number;
 
 impl Explainer<'_, '_, '_> {
@@ -43,7 +43,25 @@ impl Explainer<'_, '_, '_> {
             Fill::Count(budget, "step"),
             Fill::Number(u64::from(self.limits.max_steps)),
         );
-        say!(self.hint; ": the {} of the budget are used up\n    `within K` takes K up to {} (`--max-steps` raises that)", budget, most);
+        say!(self.hint; ": the {} of the budget are used up\n    `within K` takes K up to {}{}", budget, most, self.raises_steps());
+    }
+
+    // Which option of the program raises the limit on budgets, unless it is the greatest.
+    fn raises_steps(&self) -> Fill<'static> {
+        Fill::Words(if self.limits.max_steps < MOST_STEPS {
+            " (the program's `--max-steps` raises that)"
+        } else {
+            ""
+        })
+    }
+
+    // Which option of the program raises the limit on the size of terms, unless it is the greatest.
+    fn raises_terms(&self) -> Fill<'static> {
+        Fill::Words(if self.limits.max_terms < MAX_ROOM {
+            " (the program's `--max-terms` raises that)"
+        } else {
+            ""
+        })
     }
 
     fn explain_steps(&mut self, steps: u64, word: &str) {
@@ -83,7 +101,7 @@ impl Explainer<'_, '_, '_> {
                 Fill::Number(u64::from(self.limits.max_terms)),
                 Fill::Number(MAX_HEIGHT),
             );
-            say!(self.hint; ": a term that was built doesn't fit\n    a built term has at most {} terms in it (`--max-terms` raises that), and a tree is at most {} high", size, height);
+            say!(self.hint; ": a term that was built doesn't fit\n    a built term has at most {} terms in it{}, and a tree is at most {} high", size, self.raises_terms(), height);
         } else if let Ok(term) = read(self.alloc, self.parts.text) {
             self.say_size(level, &term);
         }
@@ -102,7 +120,7 @@ impl Explainer<'_, '_, '_> {
         let most = MAX_HEIGHT.saturating_sub(level);
         let room = u64::from(self.limits.max_terms);
         if size > room {
-            say!(self.hint; ": the term has {} terms in it, and may have {} (`--max-terms` raises that)", Fill::Number(size), Fill::Number(room));
+            say!(self.hint; ": the term has {} terms in it, and may have {}{}", Fill::Number(size), Fill::Number(room), self.raises_terms());
         } else if level == 0 {
             say!(self.hint; ": the term is {} high, and may be {}", Fill::Number(height), Fill::Number(most));
         } else {
