@@ -144,8 +144,8 @@ impl Slots<Term> {
         swap_annotations_at_parts(tree, path, other);
     }
 
-    /// Exchanges the patch in the subterm that the path leads to in the tree of slot `i`; does nothing
-    /// if there is none.
+    /// Exchanges the patch in the subterm that the path leads to in the tree of slot `i`; does
+    /// nothing if there is none.
     pub(crate) fn exchange(&mut self, i: usize, path: &[usize], patch: &mut Patch)
         ensures slots { self.new ≡ changed_tree (λ t. changed_in patch.old t path.now) self.old i }
         ensures patch { patch.new

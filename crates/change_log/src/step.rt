@@ -111,8 +111,8 @@ impl Step {
         }
     }
 
-    /// Exchanges the patch in the subterm that the path leads to in the tree of the slot, and makes a
-    /// step of it. It takes no memory.
+    /// Exchanges the patch in the subterm that the path leads to in the tree of the slot, and makes
+    /// a step of it. It takes no memory.
     pub fn patched(store: &mut Store, slot: usize, path: Vec<usize>, patch: Patch) -> Step
         ensures step { result ≡ flipped_forward (patch_entries slot path.items patch) store.old }
         ensures store { store.new ≡ after (patch_entries slot path.items patch) store.old }
@@ -198,8 +198,8 @@ impl Whole {
 }
 
 impl Parts {
-    // Exchanges the held terms with what stands at their places, which undoes the changes and redoes
-    // them.
+    // Exchanges the held terms with what stands at their places, which undoes the changes and
+    // redoes them.
     fn exchange(&mut self, store: &mut Store)
         ensures back { part_entries self.new ≡ flipped_back (part_entries self.old) store.old }
         ensures forward { part_entries self.new ≡ flipped_forward (part_entries self.old) store.old }

@@ -105,8 +105,8 @@ pub fn read_all<'a>(
     Ok(all)
 }
 
-/// The files that are loaded, in the order of the command line: the values for modules and for trees,
-/// each with their places among the words.
+/// The files that are loaded, in the order of the command line: the values for modules and for
+/// trees, each with their places among the words.
 pub fn in_order<'a>(
     alloc: Global,
     modules: &[&'a str],

@@ -1,5 +1,5 @@
-//! The characters and lines of a text in UTF-8. In other bytes each begins a character, but for those
-//! from 128 to 191.
+//! The characters and lines of a text in UTF-8. In other bytes each begins a character, but for
+//! those from 128 to 191.
 
 // Whether a character begins with the byte, in UTF-8.
 fn begins_character(byte: u8) -> bool {

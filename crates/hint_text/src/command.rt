@@ -40,8 +40,8 @@ pub struct Parts<'a> {
     pub path: Option<&'a [u8]>,
     pub number: Option<&'a [u8]>,
     pub keyword: &'a [u8],
-    /// The text of a term, annotations, a module or a strategy, or else what follows the form; and the
-    /// number of bytes before it.
+    /// The text of a term, annotations, a module or a strategy, or else what follows the form; and
+    /// the number of bytes before it.
     pub text: &'a [u8],
     pub at: usize,
 }
@@ -98,8 +98,8 @@ pub fn parts_of(text: &[u8]) -> Parts<'_> {
 }
 
 impl<'a> Parts<'a> {
-    // Takes the word in the place of an operand from what follows; of an option the word after its own,
-    // if that comes next.
+    // Takes the word in the place of an operand from what follows; of an option the word after its
+    // own, if that comes next.
     fn take(&mut self, operand: &str) {
         let (word, mut rest) = split_word(self.text);
         let (next, after) = split_word(rest);
@@ -189,8 +189,8 @@ impl Past {
 /// A command, as it stands in a script.
 #[derive(Clone, Copy)]
 pub struct Seen<'a> {
-    /// The file whose text it loads, if it is none of a script. The file then begins on the line after
-    /// the one on which the command begins.
+    /// The file whose text it loads, if it is none of a script. The file then begins on the line
+    /// after the one on which the command begins.
     pub file: Option<&'a str>,
     /// The line on which it begins, counted from 1.
     pub line: u64,

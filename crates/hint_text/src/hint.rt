@@ -1,5 +1,5 @@
-//! Sentences, with pieces of a command put into their places. A command's bytes needn't be UTF-8, so
-//! these are no `Display`.
+//! Sentences, with pieces of a command put into their places. A command's bytes needn't be UTF-8,
+//! so these are no `Display`.
 
 use crate::characters::{count_characters, first_characters, last_characters, place_of};
 use aterm_text::print_name;
@@ -18,8 +18,8 @@ const BEFORE: usize = 48;
 // What stands where a line is cut.
 const CUT: &str = "..";
 
-/// Appends a sentence to a hint, with each of these in the place of a `{}`. They are handed on one by
-/// one: an array of them at each sentence is dear to prove.
+/// Appends a sentence to a hint, with each of these in the place of a `{}`. They are handed on one
+/// by one: an array of them at each sentence is dear to prove.
 #[macro_export]
 macro_rules! say {
     ($hint:expr; $sentence:expr $(, $fill:expr)*) => {{
@@ -174,7 +174,8 @@ impl Hint {
         }
     }
 
-    /// Appends the line of the place after so many bytes of a text, and below it a `^` under the place.
+    /// Appends the line of the place after so many bytes of a text, and below it a `^` under the
+    /// place.
     pub fn show(&mut self, text: &[u8], at: usize) {
         let place = place_of(text, 1, at);
         let before = shown_before(place.before, place.after);

@@ -1,5 +1,5 @@
-//! What explanations are written with, and what they are written from: sentences, a command's parts and
-//! its place in the script, and the texts of modules.
+//! What explanations are written with, and what they are written from: sentences, a command's parts
+//! and its place in the script, and the texts of modules.
 #![tactic(auto)]
 
 mod characters;

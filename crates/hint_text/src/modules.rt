@@ -27,8 +27,8 @@ pub struct Text<'a> {
     pub module: Module,
 }
 
-/// The modules of the history, in the order of their names, as they are once the command is obeyed. Of
-/// those that were there before the tokens are read where they are wanted.
+/// The modules of the history, in the order of their names, as they are once the command is obeyed.
+/// Of those that were there before the tokens are read where they are wanted.
 pub fn read_modules<'a>(
     alloc: Global,
     history: &'a Timeline,

@@ -1,5 +1,5 @@
-//! A host with primitives of its own, as an example and for the tests: `pick` returns `a`, `b` or `c`
-//! for 0, 1 or 2, and nothing for any other term; `wants` always wants memory.
+//! A host with primitives of its own, as an example and for the tests: `pick` returns `a`, `b` or
+//! `c` for 0, 1 or 2, and nothing for any other term; `wants` always wants memory.
 //!
 //! A host says what its names mean (`Picking`), and hands operations that compute it to
 //! `Primitive::new`, each in a box: `crates/script_tests/src/runs/hosts.rt` does so.

@@ -7,8 +7,8 @@ use crate::arguments::two_integers;
 use std::alloc::Global;
 use term_core::{NoMemory, Term};
 
-/// `modi`: for integers a and b what is left of a if a / b, truncated towards zero, is taken b times
-/// from it; nothing if b is 0.
+/// `modi`: for integers a and b what is left of a if a / b, truncated towards zero, is taken b
+/// times from it; nothing if b is 0.
 pub fn modi(alloc: Global, arguments: &[Term]) -> Result<Option<Term>, NoMemory>
     requires { length arguments.now ≡ 2 }
     ensures { IfOk result (λ found. found ≡ extended (codes "modi") arguments.now) }

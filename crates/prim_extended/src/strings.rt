@@ -73,7 +73,8 @@ fn bytes_of(alloc: Global, elements: &[Term]) -> Result<Option<Vec<u8>>, NoMemor
     Ok(Some(bytes))
 }
 
-/// `gts`: the tuple (a,b) for strings a and b if a comes after b in the order of bytes, else nothing.
+/// `gts`: the tuple (a,b) for strings a and b if a comes after b in the order of bytes, else
+/// nothing.
 pub fn gts(alloc: Global, arguments: &[Term]) -> Result<Option<Term>, NoMemory>
     requires { length arguments.now ≡ 2 }
     ensures { IfOk result (λ found. found ≡ extended (codes "gts") arguments.now) }

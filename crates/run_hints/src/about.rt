@@ -25,7 +25,8 @@ pub struct About<'a> {
     pub path: &'a [usize],
 }
 
-/// A body of a definition, with its index among those of the module and the number of the definition.
+/// A body of a definition, with its index among those of the module and the number of the
+/// definition.
 #[derive(Clone, Copy)]
 pub struct Body<'a> {
     pub module: &'a Text<'a>,
@@ -37,7 +38,8 @@ pub struct Body<'a> {
 /// Where a strategy is.
 #[derive(Clone, Copy)]
 pub struct Place<'a> {
-    /// The body that has it, or the first of those that it chooses among; none if the command has it.
+    /// The body that has it, or the first of those that it chooses among; none if the command has
+    /// it.
     pub body: Option<Body<'a>>,
     /// The strategy; none if it is the choice among these bodies.
     pub node: Option<Node<'a>>,
@@ -45,8 +47,8 @@ pub struct Place<'a> {
     pub calls: usize,
 }
 
-/// The bodies of all definitions: these are numbered in the order of the texts, those of one name and one
-/// number of arguments once. No two modules have such definitions in common.
+/// The bodies of all definitions: these are numbered in the order of the texts, those of one name
+/// and one number of arguments once. No two modules have such definitions in common.
 pub fn bodies_of<'a>(alloc: Global, modules: &'a [Text<'a>]) -> Result<Vec<Body<'a>>, NoMemory> {
     let mut bodies: Vec<Body<'a>> = Vec::new(alloc);
     let mut count = 0usize;
@@ -92,8 +94,8 @@ fn has_call(calls: &[Called<'_>], definition: usize) -> bool {
 }
 
 impl<'a> About<'a> {
-    /// Where a strategy is that was begun within these calls, the outermost first. It may have been an
-    /// argument of one of them, and so belong to one further out, or to the command.
+    /// Where a strategy is that was begun within these calls, the outermost first. It may have been
+    /// an argument of one of them, and so belong to one further out, or to the command.
     pub fn find(&self, calls: &[Called<'_>], wanted: &ResolvedStrategy) -> Option<Place<'a>> {
         for outer in (0..calls.len()).rev() {
             let inner = calls.get(outer..).unwrap_or(&[]);
@@ -114,7 +116,8 @@ impl<'a> About<'a> {
         })
     }
 
-    // Where it is in the bodies of a definition. The last body follows the choices among the others.
+    // Where it is in the bodies of a definition. The last body follows the choices among the
+    // others.
     fn find_in(&self, definition: usize, wanted: &ResolvedStrategy) -> Option<Place<'a>> {
         let mut rest = &self.program.definitions().get(definition)?.strategy;
         let mut number = 0usize;

@@ -152,8 +152,8 @@ fn matches_root(about: About<'_>, alternative: Alternative<'_>, term: &Term) -> 
 }
 
 impl Teller<'_> {
-    /// Appends a line on each of at most so many alternatives that match the root of the term, and one on
-    /// those that don't.
+    /// Appends a line on each of at most so many alternatives that match the root of the term, and
+    /// one on those that don't.
     pub fn say_alternatives(
         &mut self,
         found: &[Alternative<'_>],

@@ -88,8 +88,8 @@ impl Causes {
         self.among(0).0
     }
 
-    // Keeps a failure, or the one within the alternative that it came after. Of the alternatives of one
-    // choice that with most steps is kept.
+    // Keeps a failure, or the one within the alternative that it came after. Of the alternatives of
+    // one choice that with most steps is kept.
     fn catch(&mut self, frames: usize, steps: u64, turn: u64) -> Result<(), NoMemory> {
         let turn = match self.take(frames.saturating_add(1)) {
             Some(inner) => inner.turn,

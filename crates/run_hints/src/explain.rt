@@ -15,9 +15,9 @@ use strategy_run::plan_patch_seen;
 use term_core::{Label, MAX_HEIGHT, NoMemory, Term};
 use term_paths::{Path, at, read_number, read_path};
 
-/// At most eight lines on why the run of a refused command ended as it did, each with a line feed before
-/// it; nothing if the refusal is none of a run. The command is run again, in its session, which is left
-/// as it is.
+/// At most eight lines on why the run of a refused command ended as it did, each with a line feed
+/// before it; nothing if the refusal is none of a run. The command is run again, in its session,
+/// which is left as it is.
 ///
 /// Errors: `NoMemory` if memory can't grow.
 pub fn explain_run<'a, M: Meaning>(
@@ -38,8 +38,8 @@ pub fn explain_run<'a, M: Meaning>(
     }
 }
 
-/// Two lines on where the steps of an accepted command went that applied a strategy to this tree; the
-/// session is the one after it, whose modules it leaves as they were.
+/// Two lines on where the steps of an accepted command went that applied a strategy to this tree;
+/// the session is the one after it, whose modules it leaves as they were.
 ///
 /// Errors: `NoMemory` if memory can't grow.
 pub fn profile_run<'a, M: Meaning>(

@@ -15,8 +15,8 @@ use term_paths::at_parts;
 const SHOWN: usize = 3;
 
 impl Teller<'_> {
-    /// Says what failed, where, and why; and if an alternative before it took more than a few steps, what
-    /// failed there, and how many steps it took.
+    /// Says what failed, where, and why; and if an alternative before it took more than a few
+    /// steps, what failed there, and how many steps it took.
     pub fn say_failure(
         &mut self,
         failure: &Stand<'_>,

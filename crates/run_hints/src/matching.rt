@@ -59,8 +59,8 @@ pub fn may_match(pattern: &Pattern, term: &Term) -> bool {
     true
 }
 
-/// The first part of the pattern that doesn't match. Annotations and the rests of lists aren't looked
-/// at. The bindings are those before the match, and then those that it made.
+/// The first part of the pattern that doesn't match. Annotations and the rests of lists aren't
+/// looked at. The bindings are those before the match, and then those that it made.
 pub fn find_miss<'a>(
     bindings: &mut Vec<Binding<'a>>,
     pattern: &'a Pattern,

@@ -54,8 +54,8 @@ pub struct Bound<'t> {
     pub term: Term,
 }
 
-/// Where a run stood: the strategy that was begun last, with its place, the open calls, the outermost
-/// first, where the focus was, and the focus.
+/// Where a run stood: the strategy that was begun last, with its place, the open calls, the
+/// outermost first, where the focus was, and the focus.
 #[derive(Drop)]
 pub struct Stand<'t> {
     pub strategy: &'t ResolvedStrategy,
@@ -181,8 +181,8 @@ impl<'t> Kept<'t> {
 
     // ---- steps
 
-    // Counts the steps down to so many for the innermost call, or for a definition that was tried at
-    // once.
+    // Counts the steps down to so many for the innermost call, or for a definition that was tried
+    // at once.
     fn charge(
         &mut self,
         begun: Option<Begun<'t>>,
@@ -370,8 +370,8 @@ impl<'t, M: Meaning> Look<'t> for Observer<'t, M> {
 
 // ---- definitions that are tried at once
 
-// The definition that was tried in the turn that began this, if it opened no frame: as the first branch
-// of a choice, or of that which a call of a definition like `try` stands for.
+// The definition that was tried in the turn that began this, if it opened no frame: as the first
+// branch of a choice, or of that which a call of a definition like `try` stands for.
 fn tried_at_once(begun: Begun<'_>, machine: &Machine<'_>) -> Option<usize> {
     if machine.frames.len() > begun.frames {
         return None;
@@ -399,8 +399,8 @@ fn called_by(strategy: &ResolvedStrategy) -> Option<usize> {
 
 // ---- bindings
 
-// Adds the variables of what the strategy matches, builds or hands to a primitive, where they are bound
-// in the scope.
+// Adds the variables of what the strategy matches, builds or hands to a primitive, where they are
+// bound in the scope.
 fn add_bound<'t>(
     bound: &mut Vec<Bound<'t>>,
     machine: &Machine<'_>,

@@ -43,8 +43,8 @@ pub fn answer_text<M: Meaning>(
     answer_watched(alloc, session, command, budget, answer, &mut Unwatched)
 }
 
-/// Answers a command as `answer_text` does, and shows the observer whether it was accepted, or which
-/// refusal it got.
+/// Answers a command as `answer_text` does, and shows the observer whether it was accepted, or
+/// which refusal it got.
 pub fn answer_watched<M: Meaning, W: Watch<M>>(
     alloc: Global,
     session: &mut Session<M>,
@@ -86,9 +86,9 @@ fn refuse<M: Meaning, W: Watch<M>>(
     false
 }
 
-// Most commands of scripts are of the forms `tree` and `put`. They are performed as they are read: a
-// `Command` in between costs 413 instructions more for `tree`, and 206 for `put`. No function here
-// is inlined, so that none pays for the variables of another.
+// Most commands of scripts are of the forms `tree` and `put`. They are performed as they are read:
+// a `Command` in between costs 413 instructions more for `tree`, and 206 for `put`. No function
+// here is inlined, so that none pays for the variables of another.
 #[inline(never)]
 fn answer_tree<M: Meaning, W: Watch<M>>(
     alloc: Global,

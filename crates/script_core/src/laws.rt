@@ -51,8 +51,9 @@ pub fn dump_reads_back()
     printed_text_is_as_long();
 }
 
-/// A session has room for 100,000 terms and budgets of up to 1,000,000 steps, unless it is made with
-/// other limits: then a term fits, and a command may name a budget, as it would by these numbers.
+/// A session has room for 100,000 terms and budgets of up to 1,000,000 steps, unless it is made
+/// with other limits: then a term fits, and a command may name a budget, as it would by these
+/// numbers.
 pub fn limits_by_default()
     ensures session { (primitives : List Signature) → (empty_history primitives).limits ≡ default_limits }
     ensures terms { (level : ℕ) (t : Tree) → fits default_limits.max_terms level t

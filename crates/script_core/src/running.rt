@@ -77,8 +77,8 @@ struct Running {
 /// `f(a)` and `refused 5 notree`, a line each, with two commands accepted and one refused.
 ///
 /// Errors: `Memory` only before the first command. After `Read` and `Turns` all complete commands
-/// of the bytes read are answered; an incomplete one isn't run. After `Write` the first of these are
-/// answered, and the sink took their answers, except perhaps for a suffix of the last.
+/// of the bytes read are answered; an incomplete one isn't run. After `Write` the first of these
+/// are answered, and the sink took their answers, except perhaps for a suffix of the last.
 pub fn run<M: Meaning, I: Source, O: Sink>(
     alloc: Global,
     session: &mut Session<M>,

@@ -9,15 +9,16 @@ use strategy_syntax::Constructor;
 use strategy_tokens::Token;
 use term_core::{Name, NoMemory};
 
-// The most constructors that are warned of, and the fewest bytes of a name that another is taken for.
+// The most constructors that are warned of, and the fewest bytes of a name that another is taken
+// for.
 const WARNED: u64 = 4;
 
 const LONG: usize = 4;
 
 impl Explainer<'_, '_, '_> {
-    /// Warns of the constructors of a term that no module declares, where one declares it with another
-    /// number of terms, or one whose name is a byte away. Of a term of more than 4,000 tokens nothing is
-    /// said.
+    /// Warns of the constructors of a term that no module declares, where one declares it with
+    /// another number of terms, or one whose name is a byte away. Of a term of more than 4,000
+    /// tokens nothing is said.
     pub fn warn_of_constructors(&mut self) -> Result<(), NoMemory> {
         let tokens = tokens_of(self.alloc, self.parts.text)?;
         let warned = self.warn_of_tokens(&tokens);
@@ -45,16 +46,16 @@ impl Explainer<'_, '_, '_> {
         Ok(())
     }
 
-    // Whether the token of this number is a whole word of the term: there are signs in these that begin
-    // tokens of their own.
+    // Whether the token of this number is a whole word of the term: there are signs in these that
+    // begin tokens of their own.
     fn is_apart(&self, number: usize) -> bool {
         let (bytes, start) = token_of(self.parts.text, number);
         let (before, rest) = self.parts.text.split_at(start.min(self.parts.text.len()));
         !joins(before.last()) && !joins(rest.get(bytes.len()))
     }
 
-    // Warns of the token of this number, with so many terms: there is a constructor of the same name, or
-    // of a near one.
+    // Warns of the token of this number, with so many terms: there is a constructor of the same
+    // name, or of a near one.
     fn warn_of_constructor(&mut self, number: usize, terms: u64, near: &Constructor, same: bool) {
         self.begin_warning(None, number);
         let (name, terms) = (
@@ -92,8 +93,8 @@ fn has_use(tokens: &[Token], name: &Name, terms: u64) -> bool {
     false
 }
 
-// Unless this constructor is declared with so many terms: one of this name, or else one with so many
-// terms whose name is a byte away.
+// Unless this constructor is declared with so many terms: one of this name, or else one with so
+// many terms whose name is a byte away.
 fn near_constructor<'m>(
     alloc: Global,
     modules: &'m [Text<'_>],

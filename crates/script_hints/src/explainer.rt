@@ -116,13 +116,15 @@ impl<'a, 'm, 't> Explainer<'a, 'm, 't> {
         place_in(&self.seen, self.parts.at.saturating_add(start))
     }
 
-    /// The token of this number of the text of the command, the number of bytes before it, and its place.
+    /// The token of this number of the text of the command, the number of bytes before it, and its
+    /// place.
     pub fn token(&self, number: usize) -> (Fill<'a>, usize, Fill<'a>) {
         let (bytes, start) = token_of(self.parts.text, number);
         (Fill::Quoted(bytes), start, self.at(start))
     }
 
-    /// Appends the line of the place after so many bytes of the text of the command, and a `^` below it.
+    /// Appends the line of the place after so many bytes of the text of the command, and a `^`
+    /// below it.
     pub fn show(&mut self, start: usize) {
         let (text, at) = (self.seen.text, self.parts.at.saturating_add(start));
         self.hint.show(text, at);

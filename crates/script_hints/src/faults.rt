@@ -1,5 +1,5 @@
-//! Faults that the checker finds in modules and strategies, and names that there are in place of one
-//! that isn't.
+//! Faults that the checker finds in modules and strategies, and names that there are in place of
+//! one that isn't.
 
 use crate::explainer::Explainer;
 use crate::names::Near;
@@ -120,8 +120,8 @@ impl Explainer<'_, '_, '_> {
         }
     }
 
-    // The place in the script, or in the text of a module that was loaded before. Returns the number of
-    // bytes before it.
+    // The place in the script, or in the text of a module that was loaded before. Returns the
+    // number of bytes before it.
     fn say_place(&mut self, found: Found<'_, '_>) -> usize {
         let start = token_of(found.module.text, found.token).1;
         if found.module.is_new {
@@ -148,9 +148,9 @@ impl Explainer<'_, '_, '_> {
 
     // ---- other names
 
-    // Says which definitions and constructors have the name with other numbers of arguments, or that
-    // the library or a module of `strategies/` defines it, or what to write in place of a form that isn't
-    // here, or else which name is near.
+    // Says which definitions and constructors have the name with other numbers of arguments, or
+    // that the library or a module of `strategies/` defines it, or what to write in place of a form
+    // that isn't here, or else which name is near.
     fn say_others(&mut self, fault: Fault<'_>) -> Result<(), NoMemory> {
         let instead = instead_of(self.alloc, fault.name.bytes())?;
         let defining = module_defining(fault.name.bytes());
@@ -214,8 +214,8 @@ impl Explainer<'_, '_, '_> {
         Ok(())
     }
 
-    // The numbers of arguments of the definition of this name in the library, if it has one and wasn't
-    // loaded.
+    // The numbers of arguments of the definition of this name in the library, if it has one and
+    // wasn't loaded.
     fn arity_in_library(&self, name: &Name) -> Result<Option<(u64, u64)>, NoMemory> {
         let Some(text) = self.seen.library else {
             return Ok(None);
@@ -284,8 +284,8 @@ fn find_in(text: &Text<'_>, fault: Fault<'_>, place: DefinitionTokens) -> Option
     None
 }
 
-// Whether the token of this number, which is the name of the fault, is where that is used or defined,
-// with its arguments.
+// Whether the token of this number, which is the name of the fault, is where that is used or
+// defined, with its arguments.
 fn is_used(text: &Text<'_>, fault: Fault<'_>, place: DefinitionTokens, number: usize) -> bool {
     let is_there = match fault.kind {
         FaultKind::Undeclared => text.is_in_pattern(number),
@@ -314,8 +314,8 @@ fn is_primitive(text: &Text<'_>, name: &Name, number: usize) -> bool {
     is_word(word, Keyword::Prim) && found.equals(name)
 }
 
-/// The numbers of strategies and of terms in the brackets that come next, if any do. An argument begins
-/// with a token after `(`, `,` or `|`.
+/// The numbers of strategies and of terms in the brackets that come next, if any do. An argument
+/// begins with a token after `(`, `,` or `|`.
 pub fn arguments_of(after: &[Token]) -> (u64, u64) {
     let (mut strategies, mut terms) = (0u64, 0u64);
     let (mut depth, mut begins, mut is_barred) = (0u64, false, false);

@@ -10,7 +10,8 @@ use std::alloc::Global;
 use term_core::NoMemory;
 use term_paths::read_number;
 
-// The words that begin parts of a module, and the signs that modules and trees have, and words don't.
+// The words that begin parts of a module, and the signs that modules and trees have, and words
+// don't.
 const PARTS: &str = "signature sorts constructors rules strategies imports";
 
 const SIGNS: &[u8] = b"()[]{},:;=\"";
@@ -66,8 +67,8 @@ impl Explainer<'_, '_, '_> {
         Ok(())
     }
 
-    // Whether the command looks like a line of the module or the tree before: it has a word or a sign of
-    // these, or is a word alone, and none that asks how to go on.
+    // Whether the command looks like a line of the module or the tree before: it has a word or a
+    // sign of these, or is a word alone, and none that asks how to go on.
     fn goes_on(&self) -> bool {
         let word = self.parts.word;
         let is_alone = self.parts.text.is_empty() && !has_word(QUESTIONS, word);
@@ -91,8 +92,8 @@ impl Explainer<'_, '_, '_> {
     }
 }
 
-// The first fault of a known form, in the order in which they are looked for: a sentence, and the words
-// that it speaks of. In place of the second comes the greatest number, if it is empty.
+// The first fault of a known form, in the order in which they are looked for: a sentence, and the
+// words that it speaks of. In place of the second comes the greatest number, if it is empty.
 fn fault_of<'a>(parts: &Parts<'a>) -> (&'static str, &'a [u8], &'a [u8]) {
     if has_word(parts.form, b"N") && parts.name.is_empty() {
         ("the name is missing", &[], &[])

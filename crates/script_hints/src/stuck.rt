@@ -9,8 +9,8 @@ use text_faults::{
     OpenForm, OpenToken, Role, innermost_open, roles_in_definition, roles_in_strategy,
 };
 
-// What to write instead: of the lines whose words before ` -- ` are all among the facts on the token, the
-// first counts.
+// What to write instead: of the lines whose words before ` -- ` are all among the facts on the
+// token, the first counts.
 const ADVICE: &str = "near=with -- there is no `with`: write `where`
 near=switch -- there is no `switch`: write `if .. then .. else .. end`, or `<+` between rules
 near=case -- there is no `switch`: write `if .. then .. else .. end`, or `<+` between rules
@@ -73,11 +73,12 @@ pub struct Stuck<'a> {
     pub after: &'a [Token],
     /// The innermost form that is open before it.
     pub open: Option<OpenToken>,
-    // The tokens before it, and those of them that belong to the definition or the declaration that can't
-    // go on, or to the strategy.
+    // The tokens before it, and those of them that belong to the definition or the declaration that
+    // can't go on, or to the strategy.
     before: &'a [Token],
     item: &'a [Token],
-    // The whole text, whether it is a module, and the word of the section that goes on before the item.
+    // The whole text, whether it is a module, and the word of the section that goes on before the
+    // item.
     text: &'a [u8],
     is_module: bool,
     section: &'static str,
@@ -119,8 +120,8 @@ pub fn stuck_of<'a>(
     })
 }
 
-// The number of the token that begins the item, and of the one with which it can't go on; that of all
-// tokens if it ends too early.
+// The number of the token that begins the item, and of the one with which it can't go on; that of
+// all tokens if it ends too early.
 fn stuck_token(alloc: Global, parts: &Parts<'_>, all: usize) -> Result<(usize, usize), NoMemory> {
     let found = if parts.is_module() {
         stuck_module(alloc, parts.text).map(|found| found.map(|it| (it.item, it.token)))
@@ -189,8 +190,8 @@ impl<'a> Stuck<'a> {
         self.spelled(self.number.saturating_add(1))
     }
 
-    // The token, those beside it, that before an open `<` and the first one of the item; and what it and
-    // the one before it are, and are used for.
+    // The token, those beside it, that before an open `<` and the first one of the item; and what
+    // it and the one before it are, and are used for.
     fn say_tokens(&self, facts: &mut Hint, here: &'a [u8]) {
         let (before, next) = (self.spelled_before(self.number), self.spelled_after());
         let guard = match self.open {
@@ -210,7 +211,8 @@ impl<'a> Stuck<'a> {
         say!(facts; " role={} was={} kind={} kind-before={} after={}", role, was, Fill::Words(kind), Fill::Words(ended), after);
     }
 
-    // What the item and its section are, and of some words the last before the token or in the item.
+    // What the item and its section are, and of some words the last before the token or in the
+    // item.
     fn say_item(&self, facts: &mut Hint, here: &[u8]) {
         let text = Fill::Words(if self.is_module { "module" } else { "strategy" });
         let open = Fill::Words(if self.open.is_none() { "none" } else { "form" });
@@ -245,8 +247,8 @@ impl<'a> Stuck<'a> {
         }
     }
 
-    // What the item is: new; of a definition its name and parameters alone, or one with a strategy where
-    // the left side of a rule has to be; or else.
+    // What the item is: new; of a definition its name and parameters alone, or one with a strategy
+    // where the left side of a rule has to be; or else.
     fn item_word(&self, here: &[u8]) -> &'static str {
         if self.item.is_empty() {
             "new"
@@ -304,8 +306,8 @@ fn kind_of(token: Option<&Token>) -> &'static str {
 
 // ---- the tokens of definitions
 
-// The word or sign that a token is, of those that parts of texts begin with; `?` for each that begins or
-// ends a pattern.
+// The word or sign that a token is, of those that parts of texts begin with; `?` for each that
+// begins or ends a pattern.
 fn mark_of(token: &Token) -> &'static str {
     match token {
         Token::Sign(Sign::Arrow) => "->",

@@ -73,7 +73,8 @@ impl<'a> Explainer<'a, '_, '_> {
         self.show(stuck.at);
     }
 
-    // Appends a sentence with the character at this place of the text, and the place, which is shown.
+    // Appends a sentence with the character at this place of the text, and the place, which is
+    // shown.
     fn say_here(&mut self, sentence: &str, start: usize) {
         say!(self.hint; sentence, self.character(start), self.at(start));
         self.show(start);
@@ -85,8 +86,8 @@ impl<'a> Explainer<'a, '_, '_> {
 
     // ---- strategies and modules
 
-    /// Refusal 10: the token with which the text stops being a strategy or a module, or what is open at
-    /// its end.
+    /// Refusal 10: the token with which the text stops being a strategy or a module, or what is
+    /// open at its end.
     pub fn explain_syntax(&mut self) -> Result<(), NoMemory> {
         let tokens = tokens_of(self.alloc, self.parts.text)?;
         let said = self.say_syntax(&tokens);

@@ -24,7 +24,8 @@ impl Explainer<'_, '_, '_> {
         }
     }
 
-    /// Refusal 9: the longest front of the path that is there, and how many children that subterm has.
+    /// Refusal 9: the longest front of the path that is there, and how many children that subterm
+    /// has.
     pub fn explain_path(&mut self, history: &Timeline) -> Result<(), NoMemory> {
         let Some(mut subterm) = self.tree(history) else {
             return Ok(());
@@ -51,8 +52,8 @@ impl Explainer<'_, '_, '_> {
         Ok(())
     }
 
-    /// Refusal 12: the root of the term that the strategy was applied to, and a variable of it that has the
-    /// name of a constant.
+    /// Refusal 12: the root of the term that the strategy was applied to, and a variable of it that
+    /// has the name of a constant.
     pub fn explain_fails(&mut self, history: &Timeline) -> Result<(), NoMemory> {
         let path = self.path()?;
         let term = self.tree(history).and_then(|tree| at(tree, &path));
@@ -68,7 +69,8 @@ impl Explainer<'_, '_, '_> {
         Ok(())
     }
 
-    // Appends a line on the first token of the strategy that is a variable with the name of a constant.
+    // Appends a line on the first token of the strategy that is a variable with the name of a
+    // constant.
     fn say_constant(&mut self, strategy: &Text<'_>) {
         for number in 0..strategy.tokens.len() {
             if let Some(variable) = strategy.variable_at(number)

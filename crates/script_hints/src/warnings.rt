@@ -69,8 +69,8 @@ pub fn warn_of_end(alloc: Global, past: Past) -> Result<Vec<u8>, NoMemory> {
     hint.into_text()
 }
 
-// A definition, the numbers of its first token and of the one after its last, and in a rule those of the
-// `->` and of the `where` or the end.
+// A definition, the numbers of its first token and of the one after its last, and in a rule those
+// of the `->` and of the `where` or the end.
 #[derive(Clone, Copy)]
 struct Read<'a> {
     definition: &'a Definition,
@@ -89,8 +89,8 @@ fn read_definition<'a>(module: &'a Text<'_>, number: usize) -> Option<Read<'a>> 
     })
 }
 
-// A definition with a `:` before its body is a rule. Returned are the numbers of its `->` and of its
-// `where` or the token after it.
+// A definition with a `:` before its body is a rule. Returned are the numbers of its `->` and of
+// its `where` or the token after it.
 fn rule_of(tokens: &[Token], first: usize) -> Option<(usize, usize)> {
     let is_separator = |it: &Token| is_mark(it, Sign::Colon) || is_mark(it, Sign::Equals);
     let separator = tokens.iter().position(is_separator)?;
@@ -139,7 +139,8 @@ impl Explainer<'_, '_, '_> {
         }
     }
 
-    /// Begins a warning on the token of this number, in the definition of this name, if it is in one.
+    /// Begins a warning on the token of this number, in the definition of this name, if it is in
+    /// one.
     pub fn begin_warning(&mut self, within: Option<&Name>, number: usize) {
         if !self.hint.is_empty() {
             say!(self.hint; "\n");
@@ -152,8 +153,8 @@ impl Explainer<'_, '_, '_> {
         say!(self.hint; "{}: {}", at, token);
     }
 
-    // Warns once of each variable with the name of a constant, and of each that only the right side of
-    // a rule has.
+    // Warns once of each variable with the name of a constant, and of each that only the right side
+    // of a rule has.
     fn warn_of_variables(&mut self, module: &Text<'_>, read: Read<'_>) {
         let (arrow, condition) = read.rule.unwrap_or((read.end, read.end));
         let within = Some(read.definition.name());

@@ -1,6 +1,6 @@
-//! Runs of scripts that need a reader, a writer, an observer or a primitive of their own, or a call that no command makes. What a
-//! script alone shows is in `rows/`. The crate holds only tests, so that what answers scripts is proved once and not again with its
-//! tests.
+//! Runs of scripts that need a reader, a writer, an observer or a primitive of their own, or a call
+//! that no command makes. What a script alone shows is in `rows/`. The crate holds only tests, so
+//! that what answers scripts is proved once and not again with its tests.
 #![tactic(auto)]
 
 #[cfg(test)]

@@ -1,5 +1,5 @@
-//! Scripts as text: commands are cut out of bytes and read, and streams bring the bytes and take the
-//! answers.
+//! Scripts as text: commands are cut out of bytes and read, and streams bring the bytes and take
+//! the answers.
 #![tactic(auto)]
 
 mod command;

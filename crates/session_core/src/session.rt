@@ -96,8 +96,8 @@ impl<M: Meaning> Session<M> {
         &self.primitives
     }
 
-    /// The program of the modules that were checked last, if it is kept. After an apply or a preview
-    /// that ran, these are the current modules.
+    /// The program of the modules that were checked last, if it is kept. After an apply or a
+    /// preview that ran, these are the current modules.
     pub fn kept_program(&self) -> Option<&Program> {
         self.cache.last_program()
     }

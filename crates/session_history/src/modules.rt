@@ -17,8 +17,8 @@ use std::alloc::Global;
 use term_core::{Label, NoMemory};
 
 impl Timeline {
-    /// Sets the text of the module of this name. Outside a group the checker must then find no fault
-    /// in the modules; in a group this check waits for its end.
+    /// Sets the text of the module of this name. Outside a group the checker must then find no
+    /// fault in the modules; in a group this check waits for its end.
     pub fn set_module<M: Meaning>(
         &mut self,
         primitives: &Primitives<M>,

@@ -127,8 +127,8 @@ impl Timeline {
         self.logs.len() - self.position
     }
 
-    /// Whether the last of the steps to undo has no changes. It is false where there is no such step,
-    /// and in an open group.
+    /// Whether the last of the steps to undo has no changes. It is false where there is no such
+    /// step, and in an open group.
     pub fn last_is_empty(&self) -> bool
         ensures { result ≡ true → slice_get self.now.logs (self.now.position - 1) ≡ Some [] }
     {
@@ -236,8 +236,8 @@ impl Timeline {
         Ok(())
     }
 
-    /// Exchanges a patch in the subterm that the path leads to in a slot's tree, as a step. If memory
-    /// can't grow, nothing changes.
+    /// Exchanges a patch in the subterm that the path leads to in a slot's tree, as a step. If
+    /// memory can't grow, nothing changes.
     pub fn patch_as_step(
         &mut self,
         slot: usize,
@@ -271,8 +271,8 @@ impl Timeline {
         Ok(())
     }
 
-    /// Puts a text into the slot of the module of this name, or none, as a step, if the checker then
-    /// finds no fault in the modules. The text was read before. Else nothing changes.
+    /// Puts a text into the slot of the module of this name, or none, as a step, if the checker
+    /// then finds no fault in the modules. The text was read before. Else nothing changes.
     pub fn change_text<M: Meaning>(
         &mut self,
         primitives: &Primitives<M>,

@@ -11,8 +11,8 @@ use std::alloc::{AllocError, Global};
 use std::io::Write;
 use term_core::Term;
 
-/// Explains each refused command on this screen, says there what an accepted module may not be meant
-/// to say, and where the steps of strategies went. What can't be written is left out.
+/// Explains each refused command on this screen, says there what an accepted module may not be
+/// meant to say, and where the steps of strategies went. What can't be written is left out.
 #[derive(Drop)]
 pub struct Explaining<'a, W> {
     alloc: Global,

@@ -1,4 +1,5 @@
-//! Reads a script from a file or standard input and answers each of its commands on standard output.
+//! Reads a script from a file or standard input and answers each of its commands on standard
+//! output.
 #![tactic(auto)]
 
 ghost use Rattle.std.specs.Prelude.{◌≡◌, ◌≤◌, ◌+◌, ◌<◌, ◌^◌, ℕ, List, Ok, OnOk};
@@ -167,8 +168,8 @@ fn run_whole<M: Meaning>(rt: &HostRuntime, line: &CommandLine<'_>, session: &mut
     }
 }
 
-// Loads the files, up to the first with a fault, whose exit status is returned then. The modules are
-// one step, where the first of them stands, so that their order doesn't matter.
+// Loads the files, up to the first with a fault, whose exit status is returned then. The modules
+// are one step, where the first of them stands, so that their order doesn't matter.
 fn load_all<M: Meaning>(
     rt: &HostRuntime,
     session: &mut Session<M>,
@@ -311,8 +312,8 @@ fn write_all<M: Meaning>(
     status
 }
 
-// Prints the fault of a run, if there was one, and the file that couldn't be read, with the reason why
-// it couldn't be opened.
+// Prints the fault of a run, if there was one, and the file that couldn't be read, with the reason
+// why it couldn't be opened.
 fn report_run(
     rt: &HostRuntime,
     line: &CommandLine<'_>,

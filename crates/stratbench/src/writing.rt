@@ -61,7 +61,8 @@ pub fn write_tree<M: Meaning>(
 }
 
 // Writes the text beside its place and moves it there. A file that is there keeps its permissions,
-// and a link to it stays one. What isn't a file stays as it is: a device would be replaced by a file.
+// and a link to it stays one. What isn't a file stays as it is: a device would be replaced by a
+// file.
 fn replace(rt: &HostRuntime, file: &str, text: &[u8]) -> io::Result<()> {
     let Ok(there) = fs::metadata(rt, file) else {
         return write_beside(rt, file, text, None);

@@ -17,8 +17,8 @@ use term_core::NoMemory;
 
 /// Answers, one after the other.
 ///
-/// A command is answered in a buffer of its own, where want of memory is an answer. It is appended to
-/// the others before the next command is run: if memory can't grow for that, no answer is lost.
+/// A command is answered in a buffer of its own, where want of memory is an answer. It is appended
+/// to the others before the next command is run: if memory can't grow for that, no answer is lost.
 #[derive(Drop)]
 pub struct Answers {
     others: Vec<u8>,
@@ -114,7 +114,8 @@ impl Answers {
         }
     }
 
-    /// Copies all answers to the start of `out` if there is room for them, and returns their length.
+    /// Copies all answers to the start of `out` if there is room for them, and returns their
+    /// length.
     pub fn copy_to(&self, out: &mut [u8]) -> usize
         ensures { AreCopied self.now out.old out.new result }
     {

@@ -49,8 +49,8 @@ impl Work {
         })
     }
 
-    /// Answers the commands of the script, in place of the answers of the last one. The last command
-    /// ends with the script.
+    /// Answers the commands of the script, in place of the answers of the last one. The last
+    /// command ends with the script.
     pub fn run(&mut self, alloc: Global, script: &[u8], framing: Framing, steps: u32) -> Status
         ensures { Ran framing steps script.now result
             self.old.session self.old.answers self.new.session self.new.answers }
@@ -91,8 +91,8 @@ impl Work {
             .add(alloc, &mut self.session, command, steps, &mut self.hints)
     }
 
-    /// Says how a load ended. The answer is the refusal, if there is one. `word` is the command that
-    /// would load this text, with a blank.
+    /// Says how a load ended. The answer is the refusal, if there is one. `word` is the command
+    /// that would load this text, with a blank.
     pub fn tell(
         &mut self,
         word: &[u8],
@@ -179,8 +179,8 @@ pub fn copy_hints(bench: &mut Bench, out: &mut [u8]) -> usize
     }
 }
 
-/// Says whether the calls that follow are to be explained: not if `explains` is 0. Returns the number
-/// of the status.
+/// Says whether the calls that follow are to be explained: not if `explains` is 0. Returns the
+/// number of the status.
 pub fn explain_calls(bench: &mut Bench, explains: u32) -> u32
     ensures { TellsExplained result bench.old.work bench.new.work }
 {

@@ -4,18 +4,18 @@ ghost use Rattle.std.specs.Prelude.{◌≡◌, []};
 ghost use Rattle.stratbench_c.specs.Runs.{AreCopied};
 
 use crate::answers::copy_both;
+use hint_text::{Numbered, Past, Seen};
 use prim_core::Meaning;
 use run_hints::explain_run;
 use script_core::{Framing, Piece, Watch};
-use hint_text::{Numbered, Past, Seen};
 use script_hints::{explain, warn};
 use session_core::{MAX_BUDGET, Refusal, Session};
 use session_loading::library_text;
 use std::alloc::{AllocError, Global};
 use std::marker::Model;
 
-/// What was said of the last call: lines on each refusal, and on what an accepted command may not be
-/// meant to say. Lines that memory can't grow for are left out.
+/// What was said of the last call: lines on each refusal, and on what an accepted command may not
+/// be meant to say. Lines that memory can't grow for are left out.
 #[derive(Drop)]
 pub struct Hints {
     alloc: Global,
@@ -82,7 +82,8 @@ impl Hints {
         }
     }
 
-    /// Is lent the bytes of a script, up to the one that completes a command, or up to the last one.
+    /// Is lent the bytes of a script, up to the one that completes a command, or up to the last
+    /// one.
     pub fn consume(&mut self, bytes: &[u8]) {
         if self.explains {
             self.numbered.consume(bytes);

@@ -40,8 +40,8 @@ fn library_at(bench: &mut Bench) -> Status
     }
 }
 
-/// Sets the module of this name to a text as a file has it, as a step. The answer is the refusal, if
-/// there is one. Returns the number of the status.
+/// Sets the module of this name to a text as a file has it, as a step. The answer is the refusal,
+/// if there is one. Returns the number of the status.
 pub fn set_module(bench: &mut Bench, name: &[u8], text: &[u8]) -> u32
     ensures { TellsLoad LoadsModule name.now text.now result bench.old.work bench.new.work }
 {
@@ -61,8 +61,8 @@ fn module_at(bench: &mut Bench, name: &[u8], text: &[u8]) -> Status
     }
 }
 
-/// Sets the tree of this name to what the text spells, as a step. The answer is the refusal, if there
-/// is one. Returns the number of the status.
+/// Sets the tree of this name to what the text spells, as a step. The answer is the refusal, if
+/// there is one. Returns the number of the status.
 pub fn set_tree(bench: &mut Bench, name: &[u8], text: &[u8]) -> u32
     ensures { TellsLoad LoadsTree name.now text.now result bench.old.work bench.new.work }
 {

@@ -67,12 +67,12 @@ impl Checked {
     }
 
     /// Puts the new modules in the places of `gone` modules, from index `at` on, if then no module
-    /// has a fault; else the error is the first fault, and the modules stay. The primitives are those
-    /// of the check before.
+    /// has a fault; else the error is the first fault, and the modules stay. The primitives are
+    /// those of the check before.
     ///
     /// After `Memory` the modules and the program needn't fit any more: drop them.
-    // If no module that stays notices the change, only the new ones are checked, and the others keep
-    // their resolved bodies.
+    // If no module that stays notices the change, only the new ones are checked, and the others
+    // keep their resolved bodies.
     pub fn replace<M: Meaning>(
         &mut self,
         alloc: Global,

@@ -196,8 +196,8 @@ fn add<'t>(parts: &mut Vec<Part<'t>>, part: Part<'t>) -> Result<(), NoMemory>
     }
 }
 
-/// Goes down from the focus into the child at this index, given the parts in the places of the first
-/// children. Returns the walk that holds the node.
+/// Goes down from the focus into the child at this index, given the parts in the places of the
+/// first children. Returns the walk that holds the node.
 #[inline(always)]
 pub(crate) fn descend<'t>(
     m: &mut Machine<'t>,

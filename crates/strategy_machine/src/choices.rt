@@ -142,8 +142,8 @@ fn rule_in<'t>(strategy: &'t ResolvedStrategy, outer: Option<usize>, price: u64)
 }
 
 /// A choice whose first branch is a rule. Its steps up to the match are charged together, and no
-/// frame is needed. If the root shows that the rule can't match, the first alternatives of the other
-/// branch that are rules for other roots are passed over, too.
+/// frame is needed. If the root shows that the rule can't match, the first alternatives of the
+/// other branch that are rules for other roots are passed over, too.
 #[inline(never)]
 pub(crate) fn rule_or<'t>(
     alloc: Global,

@@ -149,8 +149,9 @@ fn fail_head<'t>(m: &mut Machine<'t>) -> Result<Turned, NoMemory>
     Ok(m.fails())
 }
 
-/// Moves the walk on from the failed child to the next one, which takes the place of `part`. Returns
-/// the count of edits to go back to, or `None`, with nothing changed, if there is no next child.
+/// Moves the walk on from the failed child to the next one, which takes the place of `part`.
+/// Returns the count of edits to go back to, or `None`, with nothing changed, if there is no next
+/// child.
 #[inline(always)]
 pub(crate) fn pass<'t>(walk: &mut Walk<'t>, part: &mut Part<'t>) -> Result<Option<usize>, NoMemory>
     ensures { IfOk result (λ found. StepsOver walk.old part.old found walk.new part.new) }

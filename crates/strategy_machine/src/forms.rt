@@ -94,8 +94,8 @@ pub(crate) fn replace<'t>(
     }
 }
 
-/// A sequence. If its first strategy is a match, a name of `id`, or `all` at a node without children,
-/// that is done at once.
+/// A sequence. If its first strategy is a match, a name of `id`, or `all` at a node without
+/// children, that is done at once.
 #[inline(always)]
 pub(crate) fn take_seq<'t>(
     alloc: Global,
@@ -212,7 +212,8 @@ fn match_first<'t>(
 
 /// A guarded choice. If its first branch is a match and a build, or a rule, that is done at once,
 /// with no frame. If the root symbol rules out another first branch, its steps are charged and the
-/// machine goes straight to the other; if that is a choice among rules, to the first that may match.
+/// machine goes straight to the other; if that is a choice among rules, to the first that may
+/// match.
 #[inline(always)]
 pub(crate) fn take_guard<'t, M: Meaning>(
     alloc: Global,

@@ -81,8 +81,8 @@ pub enum Frame<'t> {
         scope: usize,
         count: usize,
     },
-    /// A list whose elements after the first `count` are the focus, as a list of their own, with the
-    /// parts in the places of the first elements.
+    /// A list whose elements after the first `count` are the focus, as a list of their own, with
+    /// the parts in the places of the first elements.
     Rest {
         node: Part<'t>,
         parts: Vec<Part<'t>>,

@@ -10,8 +10,8 @@ use term_values::Part;
 /// Where the focus is in the whole term.
 #[derive(Drop)]
 pub struct Spot {
-    /// A list that was taken apart counts as whole: an element of its rest has the index that it has
-    /// there.
+    /// A list that was taken apart counts as whole: an element of its rest has the index that it
+    /// has there.
     pub path: Vec<usize>,
     /// If the focus is the rest of a list, how many elements are before it, and else 0. The path is
     /// that of the list.

@@ -22,8 +22,8 @@ pub(crate) struct Charged<'t> {
 }
 
 impl<'t> Machine<'t> {
-    /// What the strategy stands for in the scope, if it is a name or a call that opens nothing: such
-    /// a strategy starts without a turn of its own.
+    /// What the strategy stands for in the scope, if it is a name or a call that opens nothing:
+    /// such a strategy starts without a turn of its own.
     pub fn stands_for<M: Meaning>(
         &self,
         host: &Host<'t, M>,

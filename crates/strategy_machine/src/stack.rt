@@ -400,9 +400,9 @@ impl<'t> Frames<'t> {
         Ok(Some((strategy, scope)))
     }
 
-    /// After a failure of its child, the walk of the innermost frame moves on to the next one, which
-    /// becomes the focus, and the count of edits is the one to go back to; without a next child,
-    /// nothing changes.
+    /// After a failure of its child, the walk of the innermost frame moves on to the next one,
+    /// which becomes the focus, and the count of edits is the one to go back to; without a next
+    /// child, nothing changes.
     #[inline(always)]
     pub(crate) fn pass_child(&mut self, part: &mut Part<'t>) -> Result<Option<usize>, NoMemory>
         requires { EndsIn has_walk self.old }

@@ -30,8 +30,8 @@ pub fn free_variables(
     Ok(found)
 }
 
-/// The names of the free variables of a strategy, each once, in the order of their first occurrence,
-/// without the parameters.
+/// The names of the free variables of a strategy, each once, in the order of their first
+/// occurrence, without the parameters.
 pub fn free_names(
     alloc: Global,
     parameters: &[Name],

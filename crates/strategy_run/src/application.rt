@@ -29,9 +29,9 @@ use term_paths::{Path, at};
 /// The outcome of applying a strategy: on success, the result is in the tree.
 pub type Outcome = Ended<()>;
 
-/// Whether the subterm at the path of the slot's tree is low enough for [`apply`]: the length of the
-/// path plus the height of the subterm is at most 1,000, or there is no subterm. It walks over the
-/// subterm.
+/// Whether the subterm at the path of the slot's tree is low enough for [`apply`]: the length of
+/// the path plus the height of the subterm is at most 1,000, or there is no subterm. It walks over
+/// the subterm.
 ///
 /// For example, a subterm of height 990 at a path of 10 parts is low enough, and one at a path of
 /// 11 parts isn't.
@@ -50,11 +50,11 @@ pub fn is_low_enough(store: &Store, slot: usize, path: &Path) -> bool
     }
 }
 
-/// Applies a strategy to the subterm at the path of the slot's tree, in at most `steps` steps. Terms
-/// that it builds have at most the size `room`. The log
-/// gets an entry for each edit, in order, so that each rewriting step can be read there. What a failed
-/// branch or a test did is no edit. The subterm has to be low enough at its level, the length of the
-/// path ([`is_low_enough`]); in a tree that fits, every subterm is.
+/// Applies a strategy to the subterm at the path of the slot's tree, in at most `steps` steps.
+/// Terms that it builds have at most the size `room`. The log gets an entry for each edit, in
+/// order, so that each rewriting step can be read there. What a failed branch or a test did is no
+/// edit. The subterm has to be low enough at its level, the length of the path ([`is_low_enough`]);
+/// in a tree that fits, every subterm is.
 ///
 /// Returns `Done` if the result is in the tree now, `Failed` if the strategy fails or there is no
 /// subterm at the path, `Spent` if the strategy needs more steps, or `Big` if it makes a term that

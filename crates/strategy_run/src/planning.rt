@@ -29,8 +29,8 @@ pub struct Planned {
 }
 
 /// Runs a strategy on the term, which has so many levels above it, in at most `steps` steps. Terms
-/// that it builds have at most the size `room`. The level and the height of the term come to at most
-/// 1,000 together.
+/// that it builds have at most the size `room`. The level and the height of the term come to at
+/// most 1,000 together.
 ///
 /// Returns `Done` with what that would replace in the term, as a patch of it, `Failed` if the
 /// strategy fails, `Spent` if it needs more steps, or `Big` if it makes a term that doesn't fit.

@@ -103,8 +103,8 @@ impl ResolvedStrategy {
         &self.form
     }
 
-    /// Changes the numbers of the definitions that it calls: definition k gets the number at index k
-    /// of `numbers`, and keeps its own if there is none.
+    /// Changes the numbers of the definitions that it calls: definition k gets the number at index
+    /// k of `numbers`, and keeps its own if there is none.
     #[cycle(renumbering)]
     pub fn renumber(&mut self, numbers: &[usize])
         ensures { self.new ≡ renumbered numbers.now self.old }

@@ -239,8 +239,8 @@ fn holds(bench: &Bench, slot: usize, tree: &Term) -> bool {
         .is_some_and(|there| there.equals(tree))
 }
 
-// Whether the tree is the one afterwards, and the log has an entry for each edit or place, and leads
-// back and forward.
+// Whether the tree is the one afterwards, and the log has an entry for each edit or place, and
+// leads back and forward.
 fn is_left(case: &Case<'_>, call: Call, bench: &mut Bench, slot: usize) -> bool {
     let count = match call {
         Call::Apply => case.edits,

@@ -1,6 +1,7 @@
-//! Calls of strategies that no command makes: rows by each call of the evaluator, primitives of a host,
-//! strategies that no text leads to, the deepest syntax, and modules that are replaced. The crate holds
-//! only tests, so that checker and machine are proved once and not again with their tests.
+//! Calls of strategies that no command makes: rows by each call of the evaluator, primitives of a
+//! host, strategies that no text leads to, the deepest syntax, and modules that are replaced. The
+//! crate holds only tests, so that checker and machine are proved once and not again with their
+//! tests.
 #![tactic(auto)]
 
 #[cfg(test)]

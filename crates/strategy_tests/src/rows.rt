@@ -11,8 +11,8 @@ use strategy_parse::parse_strategy;
 use strategy_syntax::{Resolved, Strategy};
 use term_core::Term;
 
-// A column of a row: the strategy, the term, the fewest steps that suffice, a word for the outcome, the
-// term afterwards, and the numbers of edits and of outermost places.
+// A column of a row: the strategy, the term, the fewest steps that suffice, a word for the outcome,
+// the term afterwards, and the numbers of edits and of outermost places.
 fn column(row: &str, index: usize) -> &str {
     row.split(" ;; ").nth(index).unwrap_or("")
 }
@@ -21,8 +21,8 @@ fn number(row: &str, index: usize) -> usize {
     column(row, index).parse().unwrap_or(usize::MAX)
 }
 
-// What is read is held in boxes, whose drops are calls: that of a strategy or a program is proved anew
-// on each way out.
+// What is read is held in boxes, whose drops are calls: that of a strategy or a program is proved
+// anew on each way out.
 fn parsed(alloc: Global, text: &str) -> Result<Box<Strategy>, Fail> {
     Ok(Box::new(alloc, parse_strategy(alloc, text.as_bytes())?)?)
 }

@@ -92,8 +92,8 @@ fn exchange_kids(marks: &[Mark], kids: usize, terms: &mut [Term], children: &mut
     left
 }
 
-// Exchanges at the last of these places, which is below a child from number `at` on. That is then the
-// child after it.
+// Exchanges at the last of these places, which is below a child from number `at` on. That is then
+// the child after it.
 #[cycle(exchange)]
 fn exchange_kid(marks: &[Mark], terms: &mut [Term], children: &mut [Term], at: &mut usize) -> Left
     requires some { 0 < length marks.now }

@@ -41,7 +41,8 @@ pub fn patches_taken_twice()
     ensures { TwiceIsNothing }
 {}
 
-/// What an exchange takes is what stands at the places, in whatever order they are set; the places stay.
+/// What an exchange takes is what stands at the places, in whatever order they are set; the places
+/// stay.
 pub fn places_of_patches()
     ensures taken { TakenIsThere }
     ensures order { EitherOrder }

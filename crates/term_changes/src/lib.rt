@@ -1,5 +1,5 @@
-//! What is to change in terms and stores: plans and the entries of logs, the change that a run makes,
-//! and patches, which are exchanged with a tree by one walk.
+//! What is to change in terms and stores: plans and the entries of logs, the change that a run
+//! makes, and patches, which are exchanged with a tree by one walk.
 #![tactic(auto)]
 
 mod draft;

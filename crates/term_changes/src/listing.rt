@@ -16,8 +16,8 @@ use std::alloc::Global;
 use term_core::{NoMemory, Term};
 
 impl Patch {
-    /// The places as entries of a plan, in the subterm that the path leads to in the slot's tree, from left
-    /// to right.
+    /// The places as entries of a plan, in the subterm that the path leads to in the slot's tree,
+    /// from left to right.
     ///
     /// Errors: only want of memory; the patch is dropped then.
     pub fn into_plan(self, alloc: Global, slot: usize, path: &[usize]) -> Result<Plan, NoMemory>
@@ -34,7 +34,8 @@ impl Patch {
     }
 }
 
-// Adds the last of these places, which is at the path, to the plan. Returns how many marks are left.
+// Adds the last of these places, which is at the path, to the plan. Returns how many marks are
+// left.
 #[cycle(list)]
 fn list_item(
     marks: &[Mark],
@@ -89,8 +90,8 @@ fn list_kids(
     Ok(left)
 }
 
-// Adds the last of these places, which is below a child of the node at the path, from number `at` on.
-// That is then the child after it.
+// Adds the last of these places, which is below a child of the node at the path, from number `at`
+// on. That is then the child after it.
 #[cycle(list)]
 fn list_kid(
     marks: &[Mark],

@@ -14,8 +14,8 @@ use thiserror::Error;
 /// The greatest length of a label, in bytes.
 pub const MAX_LABEL: usize = 64;
 
-/// A word of at most 64 bytes that names a tree or a module. Labels compare by their bytes. One of at most
-/// 13 bytes takes no memory.
+/// A word of at most 64 bytes that names a tree or a module. Labels compare by their bytes. One of
+/// at most 13 bytes takes no memory.
 #[derive(Drop)]
 pub struct Label {
     name: Name,

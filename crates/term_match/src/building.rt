@@ -50,8 +50,8 @@ const LIMITS: [u32; 10] = [
 ];
 
 impl<'t> Cells<'t> {
-    /// The instance of the pattern, if it fits below `level` terms in this room. It shares the terms
-    /// in the cells, and names with the pattern. No memory is taken if there is no instance.
+    /// The instance of the pattern, if it fits below `level` terms in this room. It shares the
+    /// terms in the cells, and names with the pattern. No memory is taken if there is no instance.
     #[inline(always)]
     pub fn build<P: Places>(
         &mut self,
@@ -261,7 +261,8 @@ impl<'t> Cells<'t> {
         }
     }
 
-    // The list of the instances of these patterns in front of the elements of a list, if there is one.
+    // The list of the instances of these patterns in front of the elements of a list, if there is
+    // one.
     #[cycle(instance)]
     fn in_front<P: Places>(
         &self,

@@ -1,5 +1,5 @@
-//! Matching patterns against terms, and building instances. What patterns match and build is shown by
-//! the tables in `rows/strategies` at the top of the repository.
+//! Matching patterns against terms, and building instances. What patterns match and build is shown
+//! by the tables in `rows/strategies` at the top of the repository.
 
 use std::alloc::Global;
 use std::test::Fail;
@@ -93,7 +93,8 @@ fn are_matched<'t>(
     )
 }
 
-// A list without elements in front, as no text spells one: its rest is the list without annotations.
+// A list without elements in front, as no text spells one: its rest is the list without
+// annotations.
 fn are_rests<'t>(alloc: Global, cells: &mut Cells<'t>, parts: Parts<'t>) -> Result<bool, NoMemory> {
     let places = InSlice { cells: &CELLS };
     cells.close_to(0);

@@ -1,5 +1,5 @@
-//! Changes in a store: logs, plans and patches. What they undo is shown by the scripts in `rows/terms` at
-//! the top of the repository, too.
+//! Changes in a store: logs, plans and patches. What they undo is shown by the scripts in
+//! `rows/terms` at the top of the repository, too.
 
 use change_log::{Entry, Log, Plan, Store};
 use std::alloc::Global;

@@ -143,7 +143,8 @@ impl<'t> Value<'t> {
         }
     }
 
-    // The rest after the first `skipped` children, which is smaller than the whole by these at least.
+    // The rest after the first `skipped` children, which is smaller than the whole by these at
+    // least.
     fn bounded_rest(&self, rest: Value<'t>, skipped: usize) -> Value<'t>
         requires rest { rest ≡ list_term (drop skipped (children self.now)) }
         requires within { skipped ≤ length (children self.now) }

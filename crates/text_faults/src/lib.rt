@@ -1,5 +1,5 @@
-//! What is wrong with a text: where it stops being a term, what makes a token bad, and which form is
-//! open where a strategy or a module ends too early.
+//! What is wrong with a text: where it stops being a term, what makes a token bad, and which form
+//! is open where a strategy or a module ends too early.
 #![tactic(auto)]
 
 mod escape;

@@ -6,8 +6,8 @@ use std::test::Fail;
 use strategy_parse::{ParseFault, parse_module, parse_strategy};
 use strategy_syntax::{Module, Strategy};
 
-// In a box, here and below: a box is dropped by a call, while the drop of its content is proved anew
-// on each way out.
+// In a box, here and below: a box is dropped by a call, while the drop of its content is proved
+// anew on each way out.
 fn strategy(alloc: Global, text: &str) -> Result<Box<Strategy>, Fail> {
     Ok(Box::new(alloc, parse_strategy(alloc, text.as_bytes())?)?)
 }

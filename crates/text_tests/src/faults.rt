@@ -1,6 +1,6 @@
-//! What is wrong with texts: where a term stops, what is bad in a token, and what is open. A row has a
-//! `^` at the place, and the word after ` ;; ` is the name of the fault. More rows, by what is said of
-//! refused commands, are in `rows/` at the top of the repository.
+//! What is wrong with texts: where a term stops, what is bad in a token, and what is open. A row
+//! has a `^` at the place, and the word after ` ;; ` is the name of the fault. More rows, by what
+//! is said of refused commands, are in `rows/` at the top of the repository.
 
 use std::alloc::Global;
 use std::test::Fail;

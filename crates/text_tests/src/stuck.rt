@@ -1,6 +1,7 @@
-//! Where texts stop being strategies or modules. A row is a text with a `^` before the token that isn't
-//! taken, and in a module a `~` before the item that can't go on; it has none of these where nothing is
-//! wrong. More rows, by what is said of refused commands, are in `rows/` at the top of the repository.
+//! Where texts stop being strategies or modules. A row is a text with a `^` before the token that
+//! isn't taken, and in a module a `~` before the item that can't go on; it has none of these where
+//! nothing is wrong. More rows, by what is said of refused commands, are in `rows/` at the top of
+//! the repository.
 
 use std::alloc::Global;
 use std::test::Fail;

@@ -3,9 +3,9 @@
 
 use super::devices::{Reader, UNDISTURBED};
 use super::{Outcome, ends, new_session, settings};
+use hint_text::Numbered;
 use prim_core::NoPrimitives;
 use script_core::{Counted, Framing, Held, Piece, Watch, run_watched};
-use hint_text::Numbered;
 use session_core::{Refusal, Session};
 use std::alloc::Global;
 use std::test::Fail;

@@ -55,8 +55,8 @@ fn reader(rest: &[u8], most: usize, fails: bool) -> Reader<'_> {
     }
 }
 
-// A script, its answers, the number of its commands, and the steps of the session if its first answer
-// isn't written, and if it is.
+// A script, its answers, the number of its commands, and the steps of the session if its first
+// answer isn't written, and if it is.
 #[derive(Clone, Copy)]
 struct Script<'a> {
     text: &'a [u8],
@@ -123,7 +123,8 @@ fn stops_before_a_read_fault(rt: HostRuntime) -> Result<(), Fail> {
     Ok(())
 }
 
-// Whether a run breaks off at the answer for which the writer has no room, and ends well if all fits.
+// Whether a run breaks off at the answer for which the writer has no room, and ends well if all
+// fits.
 fn breaks_off(alloc: Global, script: Script<'_>, narrow: Narrow) -> bool {
     let length = script.answers.len();
     let wanted = Wanted {

@@ -1,4 +1,5 @@
-//! The places in a module between two tokens: which tokens may come there, and the place after each.
+//! The places in a module between two tokens: which tokens may come there, and the place after
+//! each.
 
 ghost use Rattle.std.specs.Prelude.{◌≡◌, ◌<◌, ◌^◌, true, IfOk};
 ghost use Rattle.strategy_parse.specs.declared.modules.sorts.Turn.{Turn};
@@ -18,8 +19,8 @@ use term_core::NoMemory;
 pub enum SortUse {
     /// It is one of a part of sorts.
     Item,
-    /// It is the first of a declaration with a name: if no other and no arrow comes, the constructor's
-    /// own.
+    /// It is the first of a declaration with a name: if no other and no arrow comes, the
+    /// constructor's own.
     Constant,
     /// It is an argument: an arrow has to come.
     Argument,
@@ -245,8 +246,8 @@ fn after_part(part: Part, token: &Token) -> Option<Place>
 
 // ---- the ends of items
 
-/// Whether an item is whole before the token, or another has to begin there anyway. A sign with which
-/// a strategy would go on belongs to the item.
+/// Whether an item is whole before the token, or another has to begin there anyway. A sign with
+/// which a strategy would go on belongs to the item.
 pub fn ends_before(place: Place, token: &Token) -> bool
     ensures { result ≡ true → CanEnd place }
 {
@@ -286,8 +287,8 @@ fn prolongs(token: &Token) -> bool {
 
 // ---- the parts of definitions
 
-/// Passes over a part of a definition, if one begins here: whether it ends before the first token that
-/// isn't passed, and the tokens from that one on.
+/// Passes over a part of a definition, if one begins here: whether it ends before the first token
+/// that isn't passed, and the tokens from that one on.
 pub fn cross<'a>(
     alloc: Global,
     place: Place,
