@@ -104,6 +104,13 @@ class Page:
             self.js(EDITOR + "cm ? cm.setValue(arguments[1]) : set(field, arguments[1], 'input')", pane, text)
         return self.js(EDITOR + "return cm ? cm.getValue() : field.value", pane)
 
+    def type_into(self, pane, text):
+        """Types into the editor of a pane, when the page has put the focus there, and waits until the editor has read it."""
+        self.until(lambda: self.js("return document.querySelector(arguments[0]).contains(document.activeElement)", pane),
+            f"the focus is in {pane}")
+        self.driver.switch_to.active_element.send_keys(text)
+        self.until(lambda: text in self.editor(pane), f"what was typed is in {pane}")
+
     def field(self, name, value):
         self.js("const it = document.getElementById(arguments[0]); it.value = arguments[1]; it.dispatchEvent(new Event('input'))",
             name, value)
@@ -321,10 +328,10 @@ def try_first_module(page):
     """A tree and a module are written from nothing, with what the page says of a mistake."""
     page.click("#tree-add", waits=False)
     page.one("#add-name").send_keys(Keys.ENTER)
-    page.driver.switch_to.active_element.send_keys('Call("f",[Call("g",[])])')
+    page.type_into(".tree-pane", 'Call("f",[Call("g",[])])')
     page.click("#module-add", waits=False)
     page.one("#add-name").send_keys(Keys.ENTER)
-    page.driver.switch_to.active_element.send_keys('Rename : Call("f",xs) -> Call("h",xs)')
+    page.type_into(".module-pane", 'Rename : Call("f",xs) -> Call("h",xs)')
     same(page.editor(".module-pane").split("\n")[2:4], ["rules", '  Rename : Call("f",xs) -> Call("h",xs)'])
     page.size(*PHONE)
     page.apply("topdown(try(Rename))")
