@@ -161,32 +161,44 @@ def for_c(text):
     """The text of the LLVM module of a program as that of a library: it shows the exports, by their names in C, and nothing else."""
     text = re.sub(r"^define (?!internal )", "define internal ", text, flags=re.MULTILINE)
     text = re.sub(r'@"stratbench_c::exports::(stratbench_\w+)"', r"@\1", text)
-    text = re.sub(r"^define internal (.*@stratbench_\w+\()", r"define \1", text, flags=re.MULTILINE)
-    # the calls are compiled without a sanitizer of the kit's own
-    return text.replace(" sanitize_address", "")
+    return re.sub(r"^define internal (.*@stratbench_\w+\()", r"define \1", text, flags=re.MULTILINE)
+
+
+def change(module, changed):
+    """Changes the text of an LLVM module, which is compiled without the sanitizer that `rt try` asks for."""
+    with open(module, encoding="utf-8", errors="surrogateescape") as it:
+        text = changed(it.read().replace(" sanitize_address", ""))
+    with open(module, "w", encoding="utf-8", errors="surrogateescape") as it:
+        it.write(text)
+
+
+def compile_module(module, to, *words):
+    """Compiles the text of an LLVM module to an object."""
+    words = ["--target=x86_64-unknown-linux-gnu", "-O2", "-ffunction-sections", "-fdata-sections", *words]
+    subprocess.run([f"{kit()}/toolchain/bin/clang", *words, "-c", "-x", "ir", module, "-o", to], check=True)
+
+
+def copied(room, crate):
+    """Copies the sources of all crates into a folder, so that what is compiled leaves nothing in them. Returns the crate's folder there."""
+    for folder in glob.glob(f"{TOP}/crates/*/src"):
+        shutil.copytree(folder, f"{room}/crates/{os.path.basename(os.path.dirname(folder))}/src")
+    with open(f"{room}/crates.txt", "w", encoding="utf-8") as it:
+        it.write(contents(f"{TOP}/crates.txt").decode().replace("stratbench_c staticlib:", "stratbench_c:"))
+    return f"{room}/crates/{crate}"
 
 
 def compile_unproved(made):
     """Compiles the library without a proof. Returns whether that could be done."""
-    clang = f"{kit()}/toolchain/bin/clang"
     with tempfile.TemporaryDirectory() as room:
-        for crate in glob.glob(f"{TOP}/crates/*/src"):
-            shutil.copytree(crate, f"{room}/crates/{os.path.basename(os.path.dirname(crate))}/src")
-        with open(f"{room}/crates.txt", "w", encoding="utf-8") as it:
-            it.write(contents(f"{TOP}/crates.txt").decode().replace("stratbench_c staticlib:", "stratbench_c:"))
-        crate = f"{room}/crates/stratbench_c"
+        crate = copied(room, "stratbench_c")
         with open(f"{crate}/src/lib.rt", "a", encoding="utf-8") as it:
             it.write(CALLS % "\n        ".join(calls()))
         os.rename(f"{crate}/src/lib.rt", f"{crate}/src/main.rt")
         if not lowered(["rt", "try", "--steps", "1"], crate, made.llvm, False):
             return False
-        with open(made.llvm, encoding="utf-8", errors="surrogateescape") as it:
-            text = for_c(it.read())
-        with open(made.llvm, "w", encoding="utf-8", errors="surrogateescape") as it:
-            it.write(text)
-        words = ["--target=x86_64-unknown-linux-gnu", "-O2", "-fPIC", "-ffunction-sections", "-fdata-sections"]
-        subprocess.run([clang, *words, "-c", "-x", "ir", made.llvm, "-o", f"{room}/library.o"], check=True)
+        change(made.llvm, for_c)
+        compile_module(made.llvm, f"{room}/library.o", "-fPIC")
         with contextlib.suppress(FileNotFoundError):
             os.remove(made.archive)
-        subprocess.run(["llvm-ar", "rcs", made.archive, f"{room}/library.o"], executable=clang, check=True)
+        subprocess.run(["llvm-ar", "rcs", made.archive, f"{room}/library.o"], executable=f"{kit()}/toolchain/bin/clang", check=True)
     return True

@@ -17,6 +17,8 @@ from typing import Dict, List, NamedTuple, Optional
 
 TOP = os.path.dirname(os.path.dirname(os.path.realpath(__file__)))
 PROGRAM = f"{TOP}/crates/stratbench/out/stratbench"
+# What `tools/unproved` makes.
+UNPROVED = f"{TOP}/build/stratbench"
 
 # The refusals, by number.
 WORDS = (
