@@ -121,7 +121,7 @@ class Stratbench:
     closes it.
 
     `max_steps` is the greatest budget, from 1,000,000, which it is by default, to 4,000,000,000, and `max_terms` the greatest
-    size of a term that is loaded or built, from 100,000, which it is by default, to 1,000,000,000. With others the program ends
+    size of a term that is set or built, from 100,000, which it is by default, to 1,000,000,000. With any other number the program ends
     at once.
 
         >>> bench = Stratbench(max_steps=2_000_000, max_terms=131_071)
@@ -131,7 +131,7 @@ class Stratbench:
         >>> bench.show("t", at=[1] * 16)
         'a'
 
-    An `embedded` session takes no options and no `seconds`, keeps the limits by default, and isn't stopped by Ctrl-C. The shared
+    An `embedded` session takes no options and no `seconds`, keeps the default limits, and isn't stopped by Ctrl-C. The shared
     object is `program`, or what the environment's STRATBENCH_LIBRARY names, or `libstratbench.so`. It is used by one thread at a
     time.
 
@@ -170,7 +170,7 @@ class Stratbench:
             if options or seconds is not None:
                 raise ValueError("an embedded session takes no options and no seconds")
             if max_steps not in (None, _MOST_STEPS) or max_terms not in (None, _MOST_TERMS):
-                raise ValueError(f"an embedded session keeps the limits by default: {_MOST_STEPS:,} steps and {_MOST_TERMS:,} terms")
+                raise ValueError(f"an embedded session keeps the default limits: {_MOST_STEPS:,} steps and {_MOST_TERMS:,} terms")
             path = program or os.environ.get("STRATBENCH_LIBRARY") or "libstratbench.so"
             self._process = Embedded(path, library, _STEPS if steps is None else steps)
             return

@@ -37,8 +37,7 @@ from .terms import LIST, NoTerm, Term, exchange, height, read, size, write
 MOST_LEVELS: Final = 1_000
 MOST_TERMS: Final = 10_000_000
 MOST_STEPS: Final = 4_000_000_000
-# The budget where none is given, a term of the file, and the least: a traversal with four rules takes some 20 steps a term, and a strategy
-# that doesn't end is stopped soon.
+# The budget where none is given, a term of the file, and the least: a traversal with four rules takes some 20 steps a term.
 _STEPS_A_TERM: Final = 300
 _LEAST_STEPS: Final = 1_000_000
 
@@ -52,8 +51,9 @@ _OF_TEXTS: Final = (2, 3, 8, 10, 11)
 
 
 class Task(NamedTuple):
-    """What is done to each file: the modules that are loaded, by name and text, the strategy, and its budget, or none for one that goes with the file's size. `files` are the
-    names of the modules' files for what is said of them. `keep_comments` leaves places alone where a comment would be lost."""
+    """What is done to each file: the modules that are loaded, by name and text, the strategy, and its budget, or none for one that goes
+    with the file's size. `files` are the names of the modules' files for what is said of them. `keep_comments` leaves places alone where
+    a comment would be lost."""
 
     modules: tuple[tuple[str, bytes], ...]
     strategy: str
@@ -294,7 +294,7 @@ class _Bench:
         found: list[Command] = []
         line = 1
         for at, (tree, strategy) in enumerate(zip(trees, strategies or repeat(self.task.strategy))):
-            within = self.task.within or max(_LEAST_STEPS, _STEPS_A_TERM * size(tree))
+            within = self.task.within if self.task.within is not None else max(_LEAST_STEPS, _STEPS_A_TERM * size(tree))
             found.append(Command(f"preview t{at} within {within} do ", Text(strategy), line, 0))
             line += found[-1].sent.count("\n") + 1
         return found
