@@ -15,10 +15,23 @@ class Coded extends Session {
   }
 }
 
+/** Loads what the options of the program name: all modules are one step, where the first of them stands. */
+function load(session, loads) {
+  const modules = loads.filter(([kind]) => kind === 'module');
+  const one = ([kind, name, text]) => session[kind](name, Buffer.from(text, 'base64'));
+  for (const it of loads) {
+    if (it === modules[0]) {
+      session.run(Buffer.from('begin\n'));
+      modules.forEach(one);
+      session.run(Buffer.from('commit\n'));
+    } else if (it[0] !== 'module') one(it);
+  }
+}
+
 function answer({ script, library, lines, loads }) {
   const session = new Coded(engine);
   if (library) session.library();
-  for (const [kind, name, text] of loads) session[kind](name, Buffer.from(text, 'base64'));
+  load(session, loads);
   const outcome = session[lines ? 'lines' : 'run'](Buffer.from(script, 'base64'));
   session.close();
   return { answers: outcome.answers, said: outcome.said, status: outcome.status };
