@@ -26,7 +26,7 @@ REFUSED = [
     ("put", ("old", "/0", "g(\n1.5)"), None, (2, 2)),
     ("put", ("old", (5,), "g"), "`/5` leads only as far as `/`, where the subterm has 2 children; they are counted from 0", None),
     ("annotate", ("old", "/", "{a"), None, (1, 1)),
-    ("apply", ("old", "topdown(id)"), "at line 1, column 1\n    topdown(id)\n    ^\n    the library defines `topdown` with 1 strategy and 0 terms, but `--library` wasn't given", (1, 1)),
+    ("apply", ("old", "topdown(id)"), "at line 1, column 1\n    topdown(id)\n    ^\n    the library defines `topdown`, but `--library` wasn't given; it takes 1 strategy", (1, 1)),
     ("apply", ("old", "\n  {x:\n?x}; g"), "at line 3, column 6\n    ?x}; g\n         ^", (3, 6)),
     ("apply", ("old", "é" * 3), None, (1, 1)),
     ("preview", ("old", "id;" + " " * 200 + "g;id"), "at line 1, column 204\n    .." + " " * 60 + "g;id\n    " + " " * 62 + "^", (1, 204)),

@@ -47,7 +47,7 @@ TYPED = [
     ("DeMorgan : Not(And(x,y)) -> Or(Not(x),Not(y))", MORE),
     ("DeMorgan : Not(Or(x,y)) -> Adn" + DELETE * 2 + "nd(Not(x),Not(z))", MORE),
     ("", r"^ok\nwarning: in `DeMorgan`, line 5, column \d+: `z` is only on the right side: nothing binds it\n +DeMorgan : Not\(Or\(x,y\)\)"),
-    ("preview p do oncetd(Arow)", r"^refused 11 unknown Arow 0 0(?s:.*)the nearest name is `Arrow`"),
+    ("preview p do oncetd(Arow)", r"^refused 11 unknown Arow 0 0(?s:.*)did you mean `Arrow`"),
     ("preview p do oncetd(Arrow)", r"^changes 1 steps \d+\n/\n  - Imp\(And(?s:.*)\n  \+ Or\(Not\(And"),
     ("apply p do oncetd(Arrow)", OK),
     ("show p", r"^Or\(Not\(And\("),

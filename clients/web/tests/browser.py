@@ -253,7 +253,7 @@ def try_fault_in_module(page):
 
 def try_fault_of_names(page):
     page.apply("topdown(try(Fould))")
-    has(page.said("strategy"), "Refused (unknown)", "nothing defines Fould", "the nearest name is Fold")
+    has(page.said("strategy"), "Refused (unknown)", "nothing defines Fould", "did you mean Fold?")
     same(page.text(".strategy-pane .cm-fault"), "Fould")
     page.apply("id;\n  foo")
     has(page.said("strategy"), "line 2, column 3")

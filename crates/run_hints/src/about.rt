@@ -3,12 +3,11 @@
 use crate::finding::{Node, are_same};
 use crate::observing::Called;
 use crate::printing::DEEPEST;
-use hint_text::{Fill, Text, fill_of};
+use hint_text::{Text, arity_of, place_of, token_of};
 use std::alloc::Global;
 use strategy_check::Program;
 use strategy_parse::definition_tokens;
 use strategy_syntax::{Definition, Resolved, ResolvedForm, ResolvedStrategy, Strategy};
-use strategy_tokens::token_place;
 use term_core::{NoMemory, Term};
 
 /// What a command ran: its strategy with names and resolved, the program, and the bodies of all
@@ -25,12 +24,12 @@ pub struct About<'a> {
     pub path: &'a [usize],
 }
 
-/// A body of a definition, with its index among those of the module and the number of the
-/// definition.
+/// A body of a definition, with the number of its first token in the text of its module, and the
+/// number of the definition.
 #[derive(Clone, Copy)]
 pub struct Body<'a> {
     pub module: &'a Text<'a>,
-    pub index: usize,
+    pub first: usize,
     pub definition: &'a Definition,
     pub number: usize,
 }
@@ -53,14 +52,17 @@ pub fn bodies_of<'a>(alloc: Global, modules: &'a [Text<'a>]) -> Result<Vec<Body<
     let mut bodies: Vec<Body<'a>> = Vec::new(alloc);
     let mut count = 0usize;
     for module in modules {
-        let first = bodies.len();
-        for (index, definition) in module.module.definitions().iter().enumerate() {
-            let others = bodies.get(first..).unwrap_or(&[]);
+        let before = bodies.len();
+        let Ok(places) = definition_tokens(alloc, module.text) else {
+            return Err(NoMemory);
+        };
+        for (definition, place) in module.module.definitions().iter().zip(&places) {
+            let others = bodies.get(before..).unwrap_or(&[]);
             let number = number_among(others, definition).unwrap_or(count);
             count = count.max(number.saturating_add(1));
             bodies.push(Body {
                 module,
-                index,
+                first: place.first,
                 definition,
                 number,
             })?;
@@ -72,10 +74,8 @@ pub fn bodies_of<'a>(alloc: Global, modules: &'a [Text<'a>]) -> Result<Vec<Body<
 // The number of the definition that has bodies among these and this one.
 fn number_among(bodies: &[Body<'_>], definition: &Definition) -> Option<usize> {
     for body in bodies {
-        let other = body.definition;
-        if other.name().equals(definition.name())
-            && other.strategy_parameters().len() == definition.strategy_parameters().len()
-            && other.term_parameters().len() == definition.term_parameters().len()
+        if body.definition.name().equals(definition.name())
+            && arity_of(body.definition) == arity_of(definition)
         {
             return Some(body.number);
         }
@@ -83,14 +83,22 @@ fn number_among(bodies: &[Body<'_>], definition: &Definition) -> Option<usize> {
     None
 }
 
-// Whether one of these calls is of the definition.
-fn has_call(calls: &[Called<'_>], definition: usize) -> bool {
-    for call in calls {
-        if call.definition == definition {
-            return true;
-        }
+/// Whether one of these calls is of the definition.
+pub fn has_call(calls: &[Called<'_>], definition: usize) -> bool {
+    calls.iter().any(|call| call.definition == definition)
+}
+
+impl Body<'_> {
+    /// Whether the library has it.
+    pub fn is_of_library(&self) -> bool {
+        self.module.name == b"library".as_slice()
     }
-    false
+
+    /// The line of its module's text on which it begins.
+    pub fn line(&self) -> u64 {
+        let (_name, start) = token_of(self.module.text, self.first);
+        place_of(self.module.text, 1, start).line
+    }
 }
 
 impl<'a> About<'a> {
@@ -149,6 +157,15 @@ impl<'a> About<'a> {
         None
     }
 
+    /// The body of a definition that has this strategy; its only one if none has it.
+    pub fn body_with(&self, definition: usize, wanted: &ResolvedStrategy) -> Option<Body<'a>> {
+        match (self.find_in(definition, wanted), self.body(definition, 1)) {
+            (Some(place), _) => place.body,
+            (None, None) => self.body(definition, 0),
+            (None, Some(_)) => None,
+        }
+    }
+
     /// The body after so many others of a definition.
     pub fn body(&self, definition: usize, before: usize) -> Option<Body<'a>> {
         let mut left = before;
@@ -161,23 +178,5 @@ impl<'a> About<'a> {
             }
         }
         None
-    }
-}
-
-/// The line on which a body begins in its text.
-pub fn line_of<'a>(alloc: Global, body: Body<'_>) -> Fill<'a> {
-    let text = body.module.text;
-    let mut first = 0usize;
-    if let Ok(places) = definition_tokens(alloc, text)
-        && let Some(place) = places.get(body.index)
-    {
-        first = place.first;
-    }
-    match token_place(text, first) {
-        Some(place) => match fill_of(text, 1, place.start) {
-            Fill::At(line, _) => Fill::Line(line),
-            other => other,
-        },
-        None => Fill::Line(1),
     }
 }

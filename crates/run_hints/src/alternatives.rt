@@ -5,7 +5,7 @@ use crate::matching::{Miss, find_miss, matched, may_match};
 use crate::observing::Called;
 use crate::printing::DEEPEST;
 use crate::telling::{Piece, Teller, kind_of};
-use hint_text::say;
+use hint_text::{arity_of, say};
 use strategy_syntax::{PatternForm, Strategy, StrategyForm};
 use term_core::{Kind, Name, NoMemory, Term};
 
@@ -66,7 +66,7 @@ fn add_around<'a>(
         return Ok(());
     };
     for body in about.bodies {
-        if body.number == own.number && (place.node.is_none() || body.index < own.index) {
+        if body.number == own.number && (place.node.is_none() || body.first < own.first) {
             found.push(Alternative::Body(*body))?;
         }
     }
@@ -121,10 +121,7 @@ fn best_body<'a>(about: About<'a>, name: &Name, term: &Term) -> Option<&'a Strat
     let mut first = None;
     for body in about.bodies {
         let definition = body.definition;
-        if definition.name().equals(name)
-            && definition.strategy_parameters().is_empty()
-            && definition.term_parameters().is_empty()
-        {
+        if definition.name().equals(name) && arity_of(definition) == (0, 0) {
             if let Some(pattern) = matched(definition.body())
                 && may_match(pattern, term)
             {
@@ -153,44 +150,53 @@ fn matches_root(about: About<'_>, alternative: Alternative<'_>, term: &Term) -> 
 
 impl Teller<'_> {
     /// Appends a line on each of at most so many alternatives that match the root of the term, and
-    /// one on those that don't.
+    /// one on those that don't. They failed before this place did.
     pub fn say_alternatives(
         &mut self,
         found: &[Alternative<'_>],
+        place: Place<'_>,
         term: &Term,
         most: usize,
     ) -> Result<(), NoMemory> {
         let mut said = 0usize;
+        let mut others = Vec::new(self.about.alloc);
         for alternative in found {
-            if said < most && matches_root(self.about, *alternative, term) {
+            if !matches_root(self.about, *alternative, term) {
+                others.push(*alternative)?;
+            } else if said < most {
                 self.words("\n    ");
                 self.say_alternative(*alternative);
                 self.say_why(*alternative, term)?;
                 said = said.saturating_add(1);
             }
         }
-        self.say_others(found, term);
+        self.say_others(&others, place);
         Ok(())
     }
 
-    // Appends a line on alternatives for terms with another root.
-    fn say_others(&mut self, found: &[Alternative<'_>], term: &Term) {
-        let mut count = 0usize;
-        for alternative in found {
-            if !matches_root(self.about, *alternative, term) {
-                if count < LISTED {
-                    self.words(if count == 0 {
-                        "\n    for other terms: "
-                    } else {
-                        ", "
-                    });
-                    self.say_alternative(*alternative);
-                }
-                count = count.saturating_add(1);
+    // Appends a line on alternatives for terms with another root: of bodies of the definition that
+    // has the place only their lines.
+    fn say_others(&mut self, others: &[Alternative<'_>], place: Place<'_>) {
+        let own = place.body.map(|body| body.number);
+        let are_bodies = others.iter().all(|other| match other {
+            Alternative::Body(body) => own == Some(body.number),
+            Alternative::Strategy(_) => false,
+        });
+        let mut separator = match place.node {
+            _ if !are_bodies => "\n    alternatives for other terms: ",
+            Some(_) => "\n    other rules of that name: ",
+            None => "\n    rules for other terms: ",
+        };
+        for other in others.get(..LISTED).unwrap_or(others) {
+            self.words(separator);
+            match other {
+                Alternative::Body(body) if are_bodies => say!(self; "{}", Piece::Line(*body)),
+                _ => self.say_alternative(*other),
             }
+            separator = ", ";
         }
-        if count > LISTED {
-            let more = count.saturating_sub(LISTED) as u64;
+        if others.len() > LISTED {
+            let more = others.len().saturating_sub(LISTED) as u64;
             say!(self; ", and {} more", Piece::Number(more));
         }
     }
@@ -200,7 +206,8 @@ impl Teller<'_> {
         match alternative {
             Alternative::Strategy(strategy) => say!(self; "{}", Piece::Strategy(strategy)),
             Alternative::Body(body) => {
-                say!(self; "{} of {}", Piece::Quoted(body.definition.name().bytes()), Piece::Line(body));
+                self.say_definition(body.number);
+                say!(self; " of {}", Piece::Line(body));
             }
         }
     }

@@ -68,7 +68,7 @@ impl Causes {
             _ => false,
         };
         let begun = Begun { left, is_test };
-        for _ in self.begun.len()..=frames {
+        for _ in self.begun.len()..frames.saturating_add(1) {
             self.begun.push(begun)?;
         }
         if let Some(place) = self.begun.get_mut(frames) {

@@ -149,7 +149,10 @@ fn tell_run<M: Meaning>(
         }
         _ => match (&kept.stand, kept.causes.greatest()) {
             (None, _) => Ok(()),
-            (Some(stand), _) if matches!(wanted, Wanted::End) => teller.say_big(stand),
+            (Some(stand), _) if matches!(wanted, Wanted::End) => {
+                teller.say_big(stand);
+                Ok(())
+            }
             (Some(stand), None) => teller.say_failure(stand, None, 0),
             (Some(stand), Some(cause)) => {
                 let earlier = watch(session, seen, teller.about, Wanted::FailureIn(cause.turn))?;

@@ -49,23 +49,24 @@ impl Teller<'_> {
                 self.say_stand(place, stand, "fails on");
                 let told = self.say_reason(place, stand)?;
                 if with_alternatives {
-                    let others = alternatives(self.about, place, &stand.calls)?;
-                    self.say_alternatives(&others, &stand.focus, if told { 2 } else { 3 })?;
+                    let found = alternatives(self.about, place, &stand.calls)?;
+                    self.say_alternatives(&found, place, &stand.focus, if told { 2 } else { 3 })?;
                 }
             }
         }
-        self.say_calls(&stand.calls)
+        self.say_calls(stand);
+        Ok(())
     }
 
     /// Says which strategy made a term that is too big, and where.
-    pub fn say_big(&mut self, stand: &Stand<'_>) -> Result<(), NoMemory> {
+    pub fn say_big(&mut self, stand: &Stand<'_>) {
         if let Some(place) = stand.place {
             self.words("\n    ");
             self.say_stand(place, stand, "makes it from");
             let size = Piece::Count(stand.focus.size(), "term");
             say!(self; "\n    what it makes it from has {} in it", size);
         }
-        self.say_calls(&stand.calls)
+        self.say_calls(stand);
     }
 
     // The strategy, what it did with which term, and where both are.
@@ -91,7 +92,8 @@ impl Teller<'_> {
         };
         self.words(", in ");
         self.say_definition(body.number);
-        say!(self; " of the module {}, {} of its text", Piece::Quoted(body.module.name), Piece::Line(body));
+        let module = Piece::Quoted(body.module.name);
+        say!(self; " of the module {}, {} of its text", module, Piece::Line(body));
     }
 
     // Says why a strategy failed that is no choice. Returns whether there was something to say.

@@ -92,6 +92,8 @@ pub struct Kept<'t> {
     left: u64,
     /// The steps of each definition, by its number, and last those of the command.
     pub spent: Vec<u64>,
+    /// How often each definition succeeded, by its number, where steps are wanted.
+    pub successes: Vec<u64>,
     /// The definitions that were called last, in order.
     pub recent: Vec<usize>,
     pub causes: Causes,
@@ -106,8 +108,10 @@ impl<'t> Kept<'t> {
     pub fn new(about: About<'t>, wanted: Wanted, steps: u64) -> Result<Kept<'t>, NoMemory> {
         let alloc = about.alloc;
         let mut spent = Vec::new(alloc);
+        let mut successes = Vec::new(alloc);
         for _ in 0..=about.program.definitions().len() {
             spent.push(0)?;
+            successes.push(0)?;
         }
         Ok(Kept {
             about,
@@ -118,6 +122,7 @@ impl<'t> Kept<'t> {
             succeeded: None,
             left: steps,
             spent,
+            successes,
             recent: Vec::new(alloc),
             causes: Causes::new(alloc),
             stand: None,
@@ -150,14 +155,20 @@ impl<'t> Kept<'t> {
             Next::Failed => self.fail(begun, machine)?,
         }
         // the calls end whose answer this is
-        let mut open = self.calls.len();
-        for call in self.calls.iter().rev() {
+        let is_counted = matches!(self.wanted, Wanted::Spending)
+            && matches!(machine.next, Next::Done);
+        for _ in 0..self.calls.len() {
+            let Some(call) = self.calls.last().copied() else {
+                break;
+            };
             if call.depth < frames {
                 break;
             }
-            open = open.saturating_sub(1);
+            let _ = self.calls.pop();
+            if is_counted {
+                add(&mut self.successes, call.definition, 1);
+            }
         }
-        self.calls.truncate(open);
         Ok(())
     }
 
@@ -201,11 +212,10 @@ impl<'t> Kept<'t> {
             number = definition;
             if machine.trail.count > begun.edits {
                 self.note(definition, left)?;
+                add(&mut self.successes, definition, 1);
             }
         }
-        if let Some(spent) = self.spent.get_mut(number) {
-            *spent = spent.saturating_add(taken);
-        }
+        add(&mut self.spent, number, taken);
         Ok(())
     }
 
@@ -365,6 +375,13 @@ impl<'t, M: Meaning> Look<'t> for Observer<'t, M> {
 
     fn at_end(&mut self, machine: &Machine<'t>) -> Result<(), NoMemory> {
         self.kept.at_end(machine)
+    }
+}
+
+// Adds so much to the number of a definition.
+fn add(numbers: &mut Vec<u64>, definition: usize, more: u64) {
+    if let Some(number) = numbers.get_mut(definition) {
+        *number = number.saturating_add(more);
     }
 }
 

@@ -1,12 +1,16 @@
 //! Where the steps of a run went.
 
+use crate::matching::matched;
 use crate::observing::Kept;
 use crate::telling::{Piece, Teller};
 use hint_text::say;
 use term_core::NoMemory;
 
-// How many definitions are listed with their shares, and how many of those that repeat.
-const LISTED: usize = 5;
+// How many definitions are listed with their shares, how many of these are the user's, and how many
+// of those that repeat are listed.
+const LISTED: usize = 6;
+
+const OF_USER: usize = 5;
 
 const REPEATED: usize = 8;
 
@@ -32,33 +36,70 @@ impl Teller<'_> {
         }
         match repeated(&kept.recent) {
             Some(calls) => self.say_repeated(calls),
-            None => self.say_calls(&stand.calls)?,
+            None => self.say_calls(stand),
+        }
+        if let Some((rule, times)) = self.greatest(&kept.successes, false, true) {
+            self.words("; ");
+            self.say_definition(rule);
+            if let Some(body) = self.about.body_with(rule, stand.strategy) {
+                say!(self; " ({})", Piece::Line(body));
+            }
+            say!(self; " succeeded most often, {}", Piece::Count(times, "time"));
         }
         Ok(())
     }
 
-    /// Says which definitions took most steps of their own. Those of the command come last.
+    /// Says which definitions took most steps of their own: at most five of the user, the command
+    /// being one, and then some of the library.
     pub fn say_shares(&mut self, spent: &[u64]) -> Result<(), NoMemory> {
         let mut left = Vec::from_slice(self.about.alloc, spent)?;
         let total = sum(spent);
         let mut separator = "\n    the steps: ";
-        for _ in 0..LISTED {
-            let number = greatest(&left);
-            let Some(steps) = left.get_mut(number) else {
+        let mut was_of_user = false;
+        for said in 0..LISTED {
+            let mut found = self.greatest(&left, false, false);
+            let is_of_user = found.is_some() && said < OF_USER;
+            if !is_of_user {
+                found = self.greatest(&left, true, false);
+            }
+            let Some((number, own)) = found else {
                 break;
             };
-            let own = *steps;
-            if own == 0 {
-                break;
+            if was_of_user && !is_of_user {
+                separator = "; of the library ";
             }
-            *steps = 0;
+            was_of_user = is_of_user;
+            if let Some(steps) = left.get_mut(number) {
+                *steps = 0;
+            }
             self.words(separator);
+            separator = ", ";
             self.say_definition(number);
             let share = own.saturating_mul(100).checked_div(total).unwrap_or(0);
             say!(self; " {} % ({})", Piece::Number(share), Piece::Number(own));
-            separator = ", ";
         }
         Ok(())
+    }
+
+    // The definition, or rule, of the library or the user that has the greatest of these numbers,
+    // the command being the user's, and the number.
+    fn greatest(&self, numbers: &[u64], of_library: bool, is_rule: bool) -> Option<(usize, u64)> {
+        let mut best = numbers.len().saturating_sub(1);
+        let mut most = 0u64;
+        if !of_library {
+            most = numbers.last().copied().unwrap_or(0);
+        }
+        for body in self.about.bodies {
+            if let Some(number) = numbers.get(body.number)
+                && *number > most
+                && body.is_of_library() == of_library
+                && (!is_rule || matched(body.definition.body()).is_some())
+            {
+                most = *number;
+                best = body.number;
+            }
+        }
+        (most > 0).then_some((best, most))
     }
 
     // Says which definitions are called, each once.
@@ -88,19 +129,6 @@ pub fn sum(numbers: &[u64]) -> u64 {
         sum = sum.saturating_add(*number);
     }
     sum
-}
-
-// The index of the greatest number, the first of several.
-fn greatest(numbers: &[u64]) -> usize {
-    let mut best = 0usize;
-    let mut most = 0u64;
-    for (index, number) in numbers.iter().enumerate() {
-        if *number > most {
-            most = *number;
-            best = index;
-        }
-    }
-    best
 }
 
 // The shortest part that these calls repeat to the end, if they repeat one.

@@ -1,18 +1,22 @@
 //! Sentences about a run, with strategies, terms and places in them.
 
-use crate::about::{About, Body, line_of};
-use crate::observing::Called;
+use crate::about::{About, Body, has_call};
+use crate::observing::{Called, Stand};
 use crate::printing::{pattern_text, strategy_text};
 use aterm_text::print;
 use hint_text::{Fill, Hint, say};
-use itoa::Buffer;
 use std::alloc::Global;
 use strategy_machine::Spot;
 use strategy_syntax::{Head, Pattern, Strategy};
 use term_core::{Kind, NoMemory, Term};
 
 // The most definitions that are listed.
-const LISTED: usize = 8;
+const LISTED: usize = 5;
+
+// The most steps of a path that are shown, and how many of a longer one.
+const WHOLE: usize = 10;
+
+const FRONT: usize = 3;
 
 /// What stands in a place of a sentence.
 #[derive(Clone, Copy)]
@@ -67,7 +71,7 @@ impl<'a> Teller<'a> {
             Piece::Quoted(bytes) => Fill::Quoted(bytes),
             Piece::Number(number) => Fill::Number(number),
             Piece::Count(number, name) => Fill::Count(number, name),
-            Piece::Line(body) => line_of(alloc, body),
+            Piece::Line(body) => Fill::Line(body.line()),
             Piece::Strategy(strategy) => return self.quote(
                 sentence,
                 strategy_text(alloc, strategy),
@@ -101,42 +105,71 @@ impl<'a> Teller<'a> {
         }
     }
 
-    /// Appends the path of the focus, and how much of the list there is before it.
+    /// Appends the path of the focus, or the front of a long one, and how much of the list there is
+    /// before it.
     pub fn say_spot(&mut self, spot: &Spot) {
-        let path = path_text(self.about.alloc, self.about.path, &spot.path);
-        let rest = self.quote("{}", path);
-        self.words(rest);
+        let (above, below) = (self.about.path, spot.path.as_slice());
+        let depth = above.len().saturating_add(below.len());
+        let shown = if depth > WHOLE { FRONT } else { WHOLE };
+        self.words(if depth == 0 { "`/" } else { "`" });
+        for index in above.iter().chain(below).take(shown) {
+            say!(self; "/{}", Piece::Number(*index as u64));
+        }
+        if depth > WHOLE {
+            say!(self; "/..` (depth {})", Piece::Number(depth as u64));
+        } else {
+            self.words("`");
+        }
         if spot.before > 0 {
             say!(self; " after {}", Piece::Count(spot.before as u64, "element"));
         }
     }
 
-    /// Says which calls are open, the innermost first, each definition once.
-    pub fn say_calls(&mut self, calls: &[Called<'_>]) -> Result<(), NoMemory> {
-        let mut said: Vec<usize> = Vec::new(self.about.alloc);
-        for call in calls.iter().rev() {
-            if said.len() <= LISTED && !said.contains(&call.definition) {
-                self.words(if said.is_empty() {
-                    "\n    called, the innermost first: "
+    /// Says which calls are open where a run stands, the innermost first, each definition once. It
+    /// has the line of its body unless that is the library's, and its module if that isn't the one
+    /// in which the run stands.
+    pub fn say_calls(&mut self, stand: &Stand<'_>) {
+        let module = match stand.place.and_then(|place| place.body) {
+            Some(body) => body.module.name,
+            None => &[],
+        };
+        let calls = stand.calls.as_slice();
+        let mut begun = stand.strategy;
+        let mut said = 0usize;
+        for number in (0..calls.len()).rev() {
+            let Some((call, inner)) = calls.get(number..).unwrap_or(&[]).split_first() else {
+                break;
+            };
+            if !has_call(inner, call.definition) {
+                self.words(if said == 0 {
+                    "\n    called by, innermost first: "
                 } else {
                     ", "
                 });
-                said.push(call.definition)?;
-                if said.len() > LISTED {
+                if said == LISTED {
                     self.words("..");
-                } else {
-                    self.say_call(calls, call.definition);
+                    return;
                 }
+                said = said.saturating_add(1);
+                let body = self.about.body_with(call.definition, begun);
+                self.say_call(calls, call.definition, body, module);
             }
+            begun = call.from;
         }
-        if !said.is_empty() && said.len() <= LISTED {
+        if said > 0 {
             self.words(", the command");
         }
-        Ok(())
     }
 
-    // Says a definition, and how many of these calls are calls of it, if there is more than one.
-    fn say_call(&mut self, calls: &[Called<'_>], definition: usize) {
+    // Says a definition, where its body is, and how many of these calls are calls of it, if more
+    // than one is.
+    fn say_call(
+        &mut self,
+        calls: &[Called<'_>],
+        definition: usize,
+        body: Option<Body<'_>>,
+        module: &[u8],
+    ) {
         let mut times = 0u64;
         for call in calls {
             if call.definition == definition {
@@ -144,9 +177,22 @@ impl<'a> Teller<'a> {
             }
         }
         self.say_definition(definition);
-        if times > 1 {
-            say!(self; " ({} times)", Piece::Number(times));
+        let mut end = "";
+        if let Some(body) = body
+            && !body.is_of_library()
+        {
+            say!(self; " ({}", Piece::Line(body));
+            if body.module.name != module {
+                say!(self; " of {}", Piece::Quoted(body.module.name));
+            }
+            end = ")";
         }
+        if times > 1 {
+            let before = Piece::Words(if end.is_empty() { " (" } else { ", " });
+            say!(self; "{}{} times", before, Piece::Number(times));
+            end = ")";
+        }
+        self.words(end);
     }
 }
 
@@ -162,19 +208,5 @@ pub fn kind_of(head: &Head) -> Kind<'_> {
 fn term_text(alloc: Global, term: &Term) -> Result<Vec<u8>, NoMemory> {
     let mut text = Vec::new(alloc);
     print(term, &mut text)?;
-    Ok(text)
-}
-
-// The path of a place below another.
-fn path_text(alloc: Global, above: &[usize], below: &[usize]) -> Result<Vec<u8>, NoMemory> {
-    let mut text = Vec::new(alloc);
-    for index in above.iter().chain(below) {
-        let mut digits = Buffer::new();
-        text.push(b'/')?;
-        text.extend_from_slice(digits.format(*index as u64).as_bytes())?;
-    }
-    if text.is_empty() {
-        text.push(b'/')?;
-    }
     Ok(text)
 }

@@ -1,6 +1,7 @@
 //! What is said of a refused command.
 
 use crate::faults::Fault;
+use crate::trees::has_variable;
 use hint_text::{
     Fill, Hint, Parts, Seen, Text, count_characters, parts_of, place_of, read_modules, say,
     token_of,
@@ -34,10 +35,12 @@ pub fn explain<'a>(
 ) -> Result<Vec<u8>, NoMemory> {
     let names = history.module_names()?;
     let parts = parts_of(seen.text);
-    let modules = match refusal {
-        Refusal::Check(..) => read_modules(alloc, history, &names, &parts, true)?,
-        Refusal::Fails => read_modules(alloc, history, &names, &parts, false)?,
-        _ => Vec::new(alloc),
+    let is_check = matches!(refusal, Refusal::Check(..));
+    let is_fails = matches!(refusal, Refusal::Fails);
+    let modules = if is_check || (is_fails && has_variable(alloc, parts.text)?) {
+        read_modules(alloc, history, &names, &parts, is_check)?
+    } else {
+        Vec::new(alloc)
     };
     let mut explainer = Explainer::new(alloc, seen, &modules, history.limits());
     let explained = explainer.explain_refusal(history, refusal);
@@ -113,7 +116,20 @@ impl<'a, 'm, 't> Explainer<'a, 'm, 't> {
 
     /// The place in the script after so many bytes of the text of the command.
     pub fn at(&self, start: usize) -> Fill<'a> {
-        place_in(&self.seen, self.parts.at.saturating_add(start))
+        let seen = &self.seen;
+        // The text is without the blanks before the command and the comments within it.
+        let place = place_of(seen.text, seen.line, self.parts.at.saturating_add(start));
+        let mut column = count_characters(place.before).saturating_add(1);
+        if place.line == seen.line {
+            column = column.saturating_add(seen.indent);
+        }
+        let mut line = place.line;
+        for comment in seen.comments {
+            if *comment <= line {
+                line = line.saturating_add(1);
+            }
+        }
+        Fill::At(line, column)
     }
 
     /// The token of this number of the text of the command, the number of bytes before it, and its
@@ -135,20 +151,4 @@ impl<'a, 'm, 't> Explainer<'a, 'm, 't> {
         say!(self.hint; sentence, self.at(start));
         self.show(start);
     }
-}
-
-// A place of the command, whose text is without the blanks before it and the comments within it.
-fn place_in<'a>(seen: &Seen<'_>, at: usize) -> Fill<'a> {
-    let place = place_of(seen.text, seen.line, at);
-    let mut column = count_characters(place.before).saturating_add(1);
-    if place.line == seen.line {
-        column = column.saturating_add(seen.indent);
-    }
-    let mut line = place.line;
-    for comment in seen.comments {
-        if *comment <= line {
-            line = line.saturating_add(1);
-        }
-    }
-    Fill::At(line, column)
 }

@@ -160,7 +160,7 @@ impl Explainer<'_, '_, '_> {
             self.offer_names(&mut near, &text.module, fault)?;
         }
         if near.far == 0 {
-            self.say_near("there is", fault, near);
+            self.say_near("\n    {} takes ", fault, near);
             // Terms may be meant where the strategies are: `add (x,y)` for `<add> (x,y)`.
             if is_unknown && near.arity == (0, 0) && fault.strategies > 0 {
                 let name = Fill::Bytes(first_characters(near.name, QUOTED));
@@ -172,25 +172,33 @@ impl Explainer<'_, '_, '_> {
                 name: fault.name.bytes(),
                 arity,
             };
-            self.say_near("the library defines", fault, library);
-            say!(self.hint; ", but `--library` wasn't given");
+            self.say_near(
+                "\n    the library defines {}, but `--library` wasn't given; it takes ",
+                fault,
+                library,
+            );
         } else if !instead.is_empty() {
             self.say_advice(instead);
         } else if is_unknown && !defining.is_empty() {
             let module = Fill::Words(defining);
             say!(self.hint; "\n    the module `{}` of `strategies/` defines it; `--module {}=strategies/{}.str` loads it", module, module, module);
         } else if !near.name.is_empty() {
-            self.say_near("the nearest name is", fault, near);
+            self.say_near("\n    did you mean {}? it takes ", fault, near);
         }
         Ok(())
     }
 
-    fn say_near(&mut self, what: &str, fault: Fault<'_>, near: Near<'_>) {
-        let (what, name, arity) = (Fill::Words(what), Fill::Quoted(near.name), near.arity);
-        if matches!(fault.kind, FaultKind::Undeclared) {
-            say!(self.hint; "\n    {} {} with {}", what, name, Fill::Count(arity.0, "term"));
-        } else {
-            say!(self.hint; "\n    {} {} with {} and {}", what, name, Fill::Count(arity.0, "strategy"), Fill::Count(arity.1, "term"));
+    // Appends a sentence with the name, and what it takes.
+    fn say_near(&mut self, sentence: &str, fault: Fault<'_>, near: Near<'_>) {
+        let is_pattern = matches!(fault.kind, FaultKind::Undeclared);
+        let first = Fill::Count(near.arity.0, if is_pattern { "term" } else { "strategy" });
+        let terms = Fill::Count(near.arity.1, "term");
+        say!(self.hint; sentence, Fill::Quoted(near.name));
+        match near.arity {
+            (0, 0) => say!(self.hint; "no arguments"),
+            (_, 0) => say!(self.hint; "{}", first),
+            (0, _) => say!(self.hint; "{}", terms),
+            _ => say!(self.hint; "{} and {}", first, terms),
         }
     }
 

@@ -3,6 +3,7 @@
 use crate::explainer::Explainer;
 use hint_text::{Fill, Text, declaring, read_strategy, say};
 use session_history::Timeline;
+use std::alloc::Global;
 use term_core::{Label, NoMemory, Term};
 use term_paths::{Path, PathFault, at, read_path};
 
@@ -82,4 +83,15 @@ impl Explainer<'_, '_, '_> {
             }
         }
     }
+}
+
+/// Whether a strategy has a variable, which may be the name of a constant.
+pub fn has_variable(alloc: Global, text: &[u8]) -> Result<bool, NoMemory> {
+    let strategy = read_strategy(alloc, text)?;
+    let mut found = false;
+    for number in 0..strategy.tokens.len() {
+        found = found || strategy.variable_at(number).is_some();
+    }
+    drop(strategy);
+    Ok(found)
 }
