@@ -470,25 +470,9 @@ def _arguments(words: Sequence[str] | None) -> argparse.Namespace:
     return found
 
 
-# The modules of a folder, each after those that it says that it needs, as words NAME=FILE.
+# The modules of a folder, as words NAME=FILE.
 def _folder(folder: str) -> list[str]:
-    names = sorted(it[: -len(".str")] for it in os.listdir(folder) if it.endswith(".str"))
-    needs: dict[str, list[str]] = {}
-    for name in names:
-        with open(f"{folder}/{name}.str", encoding="utf-8", errors="replace") as it:
-            found = re.search(r"^// Needs: (.*)\.$", it.read(), re.MULTILINE)
-        needs[name] = found[1].split(", ") if found else []
-    ordered: list[str] = []
-
-    def add(name: str) -> None:
-        for it in needs.pop(name, []):
-            add(it)
-        if name in names and name not in ordered:
-            ordered.append(name)
-
-    for name in names:
-        add(name)
-    return [f"{name}={folder}/{name}.str" for name in ordered]
+    return [f"{it[: -len('.str')]}={folder}/{it}" for it in sorted(os.listdir(folder)) if it.endswith(".str")]
 
 
 def _task(given: argparse.Namespace) -> Task:

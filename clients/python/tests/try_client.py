@@ -157,7 +157,7 @@ def ends():
             ({"options": ["--tree", "t=/none"]}, 3, "read fault: /none\n    No such file or directory (os error 2)"),
             ({"options": ["--module", f"m={room}/wrong.str"]}, 1, "no module goes on with `)` at line 2, column 8\n      A : x) -> x\n           ^"),
             ({"options": ["--none"]}, 2, "--none"),
-            ({"steps": 2_000_000}, 2, "'2000000' for '--steps <N>': 2000000 is not in 1..=1000000"),
+            ({"steps": 2_000_000}, 2, "'2000000' for '--steps <N>': the greatest budget is 1000000 (--max-steps raises it)"),
             ({"max_steps": 999_999}, 2, "'999999' for '--max-steps <N>': 999999 is not in 1000000..=4000000000"),
             ({"max_terms": -1}, 2, "'-1' for '--max-terms <N>': -1 is not in 100000..=1000000000"),
         ]  # fmt: skip

@@ -100,6 +100,10 @@ abbrev pub file_of : Load → Text
 file_of (Module named) = named.file.now
 file_of (Tree named) = named.file.now
 
+abbrev pub name_of : Load → Text
+name_of (Module named) = named.name
+name_of (Tree named) = named.name
+
 abbrev pub are_named : Text → List Row → Bool
 are_named option rows = list_all is_named (values option rows)
 

@@ -2,7 +2,7 @@
 
 ghost use Rattle.std.specs.Prelude.{◌≡◌, ◌≤◌, ◌&&◌, ◌<◌, ◌⊎◌, IfOk, IfErr, true, false, map, length};
 ghost use Rattle.std.specs.List.{list_all};
-ghost use Rattle.command_line.specs.Line.{as_given, file_of, is_named, modules_of, trees_of};
+ghost use Rattle.command_line.specs.Line.{as_given, file_of, is_named, modules_of, name_of, trees_of};
 ghost use Rattle.command_line.specs.inside.Malformed.{IfMalformed};
 
 use std::alloc::{AllocError, AllocFailed, Global};
@@ -29,6 +29,15 @@ impl<'a> Load<'a> {
     {
         match self {
             Load::Module(named) | Load::Tree(named) => named.file,
+        }
+    }
+
+    /// The name of the module or the tree.
+    pub fn name(&self) -> &Label
+        ensures { result.now ≡ name_of self.now }
+    {
+        match self {
+            Load::Module(named) | Load::Tree(named) => &named.name,
         }
     }
 }

@@ -101,7 +101,9 @@ impl CommandLine<'_> {
 /// Errors: those of `clap`, which include a request for the help text and want of memory.
 pub fn arguments<'a, S: AsStr>(alloc: Global, words: &'a [S]) -> Result<CommandLine<'a>, Error>
     ensures budget { IfOk result (λ arguments. (1 ≤ arguments.budget) × (arguments.budget ≤ MOST_STEPS)) }
+    ensures most { IfOk result (λ arguments. (MAX_BUDGET ≤ arguments.max_steps) × (arguments.max_steps ≤ MOST_STEPS)) }
     ensures room { IfOk result (λ arguments. arguments.max_terms ≤ MAX_ROOM) }
+    ensures least_room { IfOk result (λ arguments. MAX_SIZE ≤ arguments.max_terms) }
 
     // What `clap` finds in the words for this command line, by the names of its arguments.
     ensures number { IfOk result (λ arguments. (text : List ℕ)
@@ -212,15 +214,13 @@ fn command<'a>(alloc: Global) -> Result<Command<'a>, AllocError>
     ensures { IfOk result (λ command. app_of command ≡ line) }
 {
     Command::new(alloc, "stratbench")
-        .about(
-            "Transforms program trees by the commands of a script, and takes back what they changed",
-        )
+        .about("Transforms program trees by the commands of a script, and undoes what they changed")
         .version(VERSION)
         .after_help(EXAMPLES)
         .arg(flag(
             alloc,
             "library",
-            "Loads the module `library` first, as a step: try, repeat, topdown, innermost, map and others",
+            "Loads the module `library` first, as a step: try, topdown, innermost, map and others",
         ))?
         .arg(steps_option(alloc))?
         .arg(max_steps_option(alloc))?
@@ -238,12 +238,12 @@ fn command<'a>(alloc: Global) -> Result<Command<'a>, AllocError>
         .arg(flag(
             alloc,
             "explain",
-            "Says on standard error why a command was refused, and where, and warns of mistakes in modules",
+            "Says on standard error why a command was refused, and where, and what may be a mistake",
         ))?
         .arg(flag(
             alloc,
             "profile",
-            "Says on standard error which definitions took the steps of each strategy that was applied",
+            "Says on standard error which definitions took the steps of each strategy",
         ))?
         .arg(interactive_flag(alloc))?
         .arg(files_option(
@@ -324,7 +324,7 @@ fn max_terms_option<'a>(alloc: Global) -> Arg<'a>
         .value_name("N")
         .value_parser(value_parser!(u32).range(MAX_SIZE as i64..=MAX_ROOM as i64))
         .default_value("100000")
-        .help("The most terms in a tree that is loaded or built, up to 1,000,000,000")
+        .help("The most terms in one that is set or built, up to 1,000,000,000")
 }
 
 fn files_option<'a>(alloc: Global, name: &'a str, help: &'a str) -> Arg<'a>

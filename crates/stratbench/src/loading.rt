@@ -13,6 +13,13 @@ use std::alloc::Global;
 use std::fs;
 use std::io::{self, ErrorKind};
 
+/// A file that was loaded, with its text.
+#[derive(Drop)]
+pub struct Loaded<'l, 'a> {
+    pub load: &'l Load<'a>,
+    pub text: Vec<u8>,
+}
+
 /// Loads the text of a file of the command line.
 ///
 /// A refusal leaves the session as it was.
@@ -43,22 +50,24 @@ pub fn read_file(rt: &HostRuntime, file: &str) -> Result<Vec<u8>, FileFault> {
     }
 }
 
-/// The file of the module with the fault that the refusal names, or of the first module.
-pub fn load_at_fault<'l, 'a, M: Meaning>(
+/// The module with the fault that the refusal names. Of several of one name that is the last, whose
+/// text the session has.
+pub fn with_fault<'s, 'l, 'a, M: Meaning>(
     alloc: Global,
     session: &Session<M>,
-    loads: &'l [Load<'a>],
+    modules: &'s [Loaded<'l, 'a>],
     refusal: &Refusal,
-) -> Option<&'l Load<'a>> {
-    let mut first = None;
-    for load in loads {
-        if let Load::Module(named) = load {
-            let found = has_fault(alloc, session.timeline(), &named.name, refusal);
-            if found == Ok(true) {
-                return Some(load);
-            }
-            first = first.or(Some(load));
+) -> Option<&'s Loaded<'l, 'a>> {
+    let mut found: Option<&'s Loaded<'l, 'a>> = None;
+    for module in modules {
+        let name = module.load.name();
+        let is_found = match found {
+            Some(other) => other.load.name() == name,
+            None => has_fault(alloc, session.timeline(), name, refusal) == Ok(true),
+        };
+        if is_found {
+            found = Some(module);
         }
     }
-    first
+    found
 }

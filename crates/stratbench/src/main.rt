@@ -3,6 +3,7 @@
 #![tactic(auto)]
 
 ghost use Rattle.std.specs.Prelude.{◌≡◌, ◌≤◌, ◌+◌, ◌<◌, ◌^◌, ℕ, List, Ok, OnOk};
+ghost use Rattle.session_history.specs.Acts.{ComesTo, commit};
 ghost use Rattle.term_core.specs.declared.TheConstants.{MAX_ROOM};
 ghost use Rattle.command_line.specs.Line.{modules_of};
 ghost use Rattle.stratbench.specs.Files.{Loads, LoadsAll, LoadsFile, LoadsModules, SetsAll};
@@ -18,7 +19,7 @@ use clap::error::ErrorKind;
 use command_line::{CommandLine, Load, arguments};
 use dialogue::{Group, Prompting, Watched};
 use explaining::{Explaining, Wanted, explain_load, warn_of_load};
-use loading::{load_at_fault, load_text, read_file};
+use loading::{Loaded, load_text, read_file, with_fault};
 use prim_core::{Meaning, Primitive, Primitives};
 use prim_extended::extended_primitives;
 use script_core::{
@@ -90,7 +91,7 @@ fn refuse_line(rt: &HostRuntime, error: &Error) -> u8 {
 fn refuse_budget(rt: &HostRuntime, line: &CommandLine<'_>) -> u8 {
     let (steps, most) = (line.budget, line.max_steps);
     let _ = eprintln!(rt;
-        "error: invalid value '{steps}' for '--steps <N>': {steps} is not in 1..={most}"
+        "error: invalid value '{steps}' for '--steps <N>': the greatest budget is {most} (--max-steps raises it)"
     );
     let _ = eprintln!(rt; "\nFor more information, try '--help'.");
     REFUSED
@@ -127,7 +128,8 @@ fn print_refusal(rt: &HostRuntime, file: &str, refusal: &Refusal) -> io::Result<
 
 // Runs a new session with the extended primitives over the script. Returns the exit status.
 fn run_line(rt: &HostRuntime, line: &CommandLine<'_>) -> u8
-    requires { line.now.max_terms ≤ MAX_ROOM }
+    requires room { line.now.max_terms ≤ MAX_ROOM }
+    requires budget { line.now.budget ≤ line.now.max_steps }
 {
     match extended_primitives(rt.alloc()) {
         Ok(primitives) => run_with(rt, line, primitives),
@@ -180,7 +182,7 @@ fn load_all<M: Meaning>(
     let mut done = false;
     for load in &line.loads {
         match load {
-            Load::Tree(_) => load_file(rt, session, load, line.explains())?,
+            Load::Tree(_) => load_tree(rt, session, load, line.explains())?,
             Load::Module(_) if done => {}
             Load::Module(_) => {
                 load_modules(rt, session, line)?;
@@ -200,34 +202,75 @@ fn load_modules<M: Meaning>(
     ensures { OnOk result (LoadsModules (modules_of line.now.loads.items) session.old session.new) }
 {
     if let Err(refusal) = session.begin() {
-        return Err(report_modules(rt, session, line, refusal));
+        return Err(report_file(rt, "--module", &FileFault::from(refusal)));
     }
-    set_modules(rt, session, line)?;
+    // The texts of the files are kept to the end, where it is known what is wrong with them.
+    let mut loaded = Vec::new(rt.alloc());
+    match set_modules(rt, session, line, &mut loaded) {
+        Ok(()) => commit_modules(rt, session, line, &loaded),
+        Err(status) => Err(status),
+    }
+}
+
+// Ends the group of the modules, which are checked together.
+fn commit_modules<M: Meaning>(
+    rt: &HostRuntime,
+    session: &mut Session<M>,
+    line: &CommandLine<'_>,
+    loaded: &[Loaded<'_, '_>],
+) -> Result<(), u8>
+    ensures { OnOk result (ComesTo commit session.old (Ok session.new)) }
+{
     match session.commit() {
-        Ok(()) => Ok(()),
-        Err(refusal) => Err(report_modules(rt, session, line, refusal)),
+        Ok(()) => {
+            warn_of_modules(rt, session, line, loaded);
+            Ok(())
+        }
+        Err(refusal) => Err(report_modules(rt, session, line, loaded, refusal)),
     }
 }
 
 // Sets all modules, in their order.
-fn set_modules<M: Meaning>(
+fn set_modules<'l, 'a, M: Meaning>(
     rt: &HostRuntime,
     session: &mut Session<M>,
-    line: &CommandLine<'_>,
+    line: &'l CommandLine<'a>,
+    loaded: &mut Vec<Loaded<'l, 'a>>,
 ) -> Result<(), u8>
     ensures { OnOk result (SetsAll (modules_of line.now.loads.items) session.old session.new) }
 {
     for load in &line.loads {
         match load {
-            Load::Module(_) => load_file(rt, session, load, line.explains())?,
+            Load::Module(_) => set_module(rt, session, load, line.explains(), loaded)?,
             Load::Tree(_) => {}
         }
     }
     Ok(())
 }
 
-// Loads a file, and says what is wrong with it.
-fn load_file<M: Meaning>(
+// Sets a module, and keeps the text of its file.
+fn set_module<'l, 'a, M: Meaning>(
+    rt: &HostRuntime,
+    session: &mut Session<M>,
+    load: &'l Load<'a>,
+    explains: bool,
+    loaded: &mut Vec<Loaded<'l, 'a>>,
+) -> Result<(), u8>
+    ensures { OnOk result (LoadsFile load.now session.old session.new) }
+{
+    let text = match read_file(rt, load.file()) {
+        Ok(text) => text,
+        Err(fault) => return Err(report_file(rt, load.file(), &fault)),
+    };
+    load_one(rt, session, load, &text, explains)?;
+    match loaded.push(Loaded { load, text }) {
+        Ok(()) => Ok(()),
+        Err(_) => Err(report_file(rt, load.file(), &FileFault::Memory)),
+    }
+}
+
+// Loads a tree, and says what is wrong with it.
+fn load_tree<M: Meaning>(
     rt: &HostRuntime,
     session: &mut Session<M>,
     load: &Load<'_>,
@@ -236,12 +279,18 @@ fn load_file<M: Meaning>(
     ensures { OnOk result (LoadsFile load.now session.old session.new) }
 {
     match read_file(rt, load.file()) {
-        Ok(text) => load_one(rt, session, load, &text, explains),
+        Ok(text) => {
+            load_one(rt, session, load, &text, explains)?;
+            if explains {
+                warn_of_load(rt.alloc(), rt.stderr(), session, load, &text);
+            }
+            Ok(())
+        }
         Err(fault) => Err(report_file(rt, load.file(), &fault)),
     }
 }
 
-// Loads the text of a file, and says what is wrong with it.
+// Loads the text of a file, and says why it is refused.
 fn load_one<M: Meaning>(
     rt: &HostRuntime,
     session: &mut Session<M>,
@@ -252,13 +301,22 @@ fn load_one<M: Meaning>(
     ensures { OnOk result (Loads load.now text.now session.old (Ok session.new)) }
 {
     match load_text(rt.alloc(), session, load, text) {
-        Ok(()) => {
-            if explains {
-                warn_of_load(rt.alloc(), rt.stderr(), session, load, text);
-            }
-            Ok(())
-        }
+        Ok(()) => Ok(()),
         Err(refusal) => Err(report_load(rt, session, load, text, explains, refusal)),
+    }
+}
+
+// Says what the modules may not be meant to say.
+fn warn_of_modules<M: Meaning>(
+    rt: &HostRuntime,
+    session: &Session<M>,
+    line: &CommandLine<'_>,
+    modules: &[Loaded<'_, '_>],
+) {
+    if line.explains() {
+        for module in modules {
+            warn_of_load(rt.alloc(), rt.stderr(), session, module.load, &module.text);
+        }
     }
 }
 
@@ -285,14 +343,12 @@ fn report_modules<M: Meaning>(
     rt: &HostRuntime,
     session: &Session<M>,
     line: &CommandLine<'_>,
+    modules: &[Loaded<'_, '_>],
     refusal: Refusal,
 ) -> u8 {
-    let Some(load) = load_at_fault(rt.alloc(), session, &line.loads, &refusal) else {
-        return report_file(rt, "--module", &FileFault::from(refusal));
-    };
-    match read_file(rt, load.file()) {
-        Ok(text) => report_load(rt, session, load, &text, line.explains(), refusal),
-        Err(fault) => report_file(rt, load.file(), &fault),
+    match with_fault(rt.alloc(), session, modules, &refusal) {
+        Some(it) => report_load(rt, session, it.load, &it.text, line.explains(), refusal),
+        None => report_file(rt, "--module", &FileFault::from(refusal)),
     }
 }
 

@@ -56,8 +56,8 @@ impl Answers {
         self.follows = false;
     }
 
-    /// Answers one more command, and returns whether it was accepted. `budget` is
-    /// that of a command that names none. The observer sees the command and how it is answered.
+    /// Answers one more command, and returns whether it was accepted. `budget` is that of a command
+    /// that names none. The observer sees the command and how it is answered.
     ///
     /// Errors: if memory can't grow for the answers so far, the command isn't run, and all stays.
     pub fn add<M: Meaning, W: Watch<M>>(

@@ -6,7 +6,7 @@ use Rattle.command_line.specs.declared.named.Load.{Load}
 use Rattle.command_line.specs.declared.named.Load.TheVariants.{Module, Tree}
 use Rattle.session_history.specs.History.{History}
 use Rattle.stratbench.specs.Files.{LoadsFile, LoadsModules, LoadsRest}
-use Rattle.stratbench.proofs.load_all.Goals.{in-Tree+in_ok-load_file-in-Tree, in-Module, in-Module-2+in_ok-load_modules-in-Module-2}
+use Rattle.stratbench.proofs.load_all.Goals.{in-Tree+in_ok-load_tree-in-Tree, in-Module, in-Module-2+in_ok-load_modules-in-Module-2}
 use Rattle.stratbench.proofs.load_all.Goals as goal
 
 module _ (modules : List Named) (loads : List Load) (i : ℕ) (load : Load) (named : Named) (lt : i < length loads) (is : load ≡ get_or loads i load) where
@@ -36,8 +36,8 @@ loop-load-preserved g c = λ h rest.
     let i = c.loop-load.load-index in
     let load = c.load-item.result in
     c.loop-load.invariant h (elim c.match-load.branch [
-      | in-Tree+in_ok-load_file-in-Tree w ↦
-          tree_next (modules_of items) items i load _ c.loop-load-test.true c.load-item.is c.loop-load.done c.loop-load.session _ h w.in-Tree.is w.in_ok-load_file-in-Tree.ensures
+      | in-Tree+in_ok-load_tree-in-Tree w ↦
+          tree_next (modules_of items) items i load _ c.loop-load-test.true c.load-item.is c.loop-load.done c.loop-load.session _ h w.in-Tree.is w.in_ok-load_tree-in-Tree.ensures
           (rw (w.done-is, w.session-is) at rest)
       | in-Module w ↦
           rw w.if-done.true (module_passed (modules_of items) items i load _ c.loop-load-test.true c.load-item.is c.loop-load.session h w.in-Module.is

@@ -6,7 +6,7 @@ use Rattle.command_line.specs.declared.named.Load.{Load}
 use Rattle.command_line.specs.declared.named.Load.TheVariants.{Module, Tree}
 use Rattle.session_history.specs.History.{History}
 use Rattle.stratbench.specs.Files.{LoadsFile, SetsAll}
-use Rattle.stratbench.proofs.set_modules.Goals.{in-Module+in_ok-load_file-in-Module, in-Tree}
+use Rattle.stratbench.proofs.set_modules.Goals.{in-Module+in_ok-set_module-in-Module, in-Tree}
 use Rattle.stratbench.proofs.set_modules.Goals as goal
 
 module _ (loads : List Load) (i : ℕ) (load : Load) (named : Named) (lt : i < length loads) (is : load ≡ get_or loads i load) where
@@ -32,8 +32,8 @@ loop-load-preserved g c = λ h rest.
     let i = c.loop-load.load-index in
     let load = c.load-item.result in
     c.loop-load.invariant h (elim c.match-load.branch [
-      | in-Module+in_ok-load_file-in-Module w ↦
-          set_next items i load _ c.loop-load-test.true c.load-item.is c.loop-load.session w.load_file.new.session h w.in-Module.is w.in_ok-load_file-in-Module.ensures (rw w.session-is at rest)
+      | in-Module+in_ok-set_module-in-Module w ↦
+          set_next items i load _ c.loop-load-test.true c.load-item.is c.loop-load.session w.set_module.new.session h w.in-Module.is w.in_ok-set_module-in-Module.ensures (rw w.session-is at rest)
       | in-Tree w ↦ tree_passed items i load _ c.loop-load-test.true c.load-item.is c.loop-load.session h w.in-Tree.is (rw w.session-is at rest)
     ])
 
