@@ -44,6 +44,7 @@ OWN: Final = {
 _HELP: Final = """\
 Other lines are commands of the workbench:
 {forms}
+N and C are names, P is a path as /0/2, T a term, M the text of a module, S a strategy, K a number.
 A command goes on over lines while brackets are open; `module N` and `tree N` alone go on, too. An empty line ends them.
 Tab completes. Ctrl-R searches what was typed. Ctrl-C cancels a line, or stops a run that takes long; the session is then as before it."""
 # A text larger than this is shown without its changes in colour.
@@ -72,8 +73,9 @@ class Shell:
         self._again = ""
         # the files that were loaded, each with the name that it was given, and what it had
         self._files: dict[str, tuple[str, Loaded]] = {}
-        # texts from the editor that were refused
+        # texts from the editor that were refused, and commands that were typed with such a text
         self._drafts: dict[str, str] = {}
+        self._typed: dict[str, str] = {}
         self._own: dict[str, Callable[..., None]] = {word: getattr(self, f"do_{word}") for word in OWN}
         own = {f":{word}": form for word, (form, _) in OWN.items()}
         self._completer = Completer(session, own, self._steps, lambda: [it.name for _, it in self._files.values()])
@@ -133,6 +135,10 @@ class Shell:
             self._preview(command, words[1:2])
         elif words[0] == "show":
             self._show(command, words)
+        elif words[0] in ("module", "tree"):
+            self._typed[words[1]] = command
+            self.say(self.session.run(command))
+            del self._typed[words[1]]
         else:
             self.say(self.session.run(command))
         self._say_warnings()
@@ -204,6 +210,8 @@ class Shell:
         forms = [f"{word} {form}".rstrip() for word, form in FORMS.items()]
         rows = [f"  {one:40}{other}".rstrip() for one, other in itertools.zip_longest(forms[::2], forms[1::2], fillvalue="")]
         self.say(_HELP.format(forms="\n".join(rows)))
+        if self.edits_here:
+            self.say("In the last line of a text Enter ends it, in others it begins a line; Escape and then Enter ends it anywhere.")
 
     def do_quit(self) -> None:
         raise Quit
@@ -314,11 +322,14 @@ class Shell:
 
     def do_edit(self, name: str) -> None:
         trees, modules = self._names()
+        if name not in trees and name not in modules and name not in self._typed and name not in self._drafts:
+            self.say(f"there is no {name} yet; this is a new module")
         kind: Literal["tree", "module"] = "tree" if name in trees and name not in modules else "module"
         before = self._text(kind, name) if kind == "tree" or name in modules else ""
         file = next((file for file, (_, it) in self._files.items() if (it.kind, it.name) == (kind, name)), "")
         if self.edits_here and not _editor():
-            self.begun = f"tree {name} {before}" if kind == "tree" else f"module {name}\n{_indented(before)}"
+            kept = f"tree {name} {before}" if kind == "tree" else f"module {name}\n{_indented(before)}"
+            self.begun = self._typed.pop(name, kept)
         elif file and _same(self._files[file][1].text, before):
             self._edit_file(name, file)
         else:
