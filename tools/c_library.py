@@ -19,6 +19,8 @@ from typing import NamedTuple
 from workbench import TOP
 
 CRATE = f"{TOP}/crates/stratbench_c"
+# The fewest bytes of an LLVM module of a program. That of `rt try` itself has fewer.
+LEAST = 1_000_000
 
 
 class Library(NamedTuple):
@@ -77,13 +79,23 @@ def is_made(stamp, made, files=()):
     return all(map(os.path.exists, [stamp, *made])) and contents(stamp).decode() == checksum(files)
 
 
-def lowered(words, folder, to, says):
+def is_handed_on(file):
+    """Whether a process has this file among its words. It is a compiler then, and the file is whole."""
+    for words in glob.glob("/proc/[0-9]*/cmdline"):
+        with contextlib.suppress(OSError):
+            if file.encode() in contents(words).split(b"\0"):
+                return True
+    return False
+
+
+def lowered(words, folder, to, says, stops=False):
     """Runs a command of the kit in a folder, and keeps as `to` the LLVM module that it hands to clang, as text. Returns whether there is one.
-    What the command says is printed, or if `says` is false only where it fails.
+    What the command says is printed, or if `says` is false only where it fails. If `stops` is true the command is ended once it has handed on
+    a module of a program.
 
     The kit writes that module into the folder for temporary files, and removes it afterwards. A second link to the file stays.
     """
-    linked = {}
+    linked, stopped = {}, False
     with tempfile.TemporaryDirectory() as room, open(f"{room}/said", "wb") as said:
         how = {"cwd": folder, "env": {**os.environ, "TMPDIR": room}, "stdin": subprocess.DEVNULL}
         with subprocess.Popen(words, **how, **{} if says else {"stdout": said, "stderr": said}) as ran:
@@ -94,8 +106,12 @@ def lowered(words, folder, to, says):
                         if found not in linked:
                             os.link(found, f"{room}/{len(linked)}")
                             linked[found] = f"{room}/{len(linked)}"
+                if stops and any(os.path.getsize(kept) > LEAST and is_handed_on(file) for file, kept in linked.items()):
+                    stopped = True
+                    ran.terminate()
+                    break
                 time.sleep(0.05)
-        if ran.returncode or not linked:
+        if ran.returncode and not stopped or not linked:
             print(contents(f"{room}/said")[-2000:].decode(errors="replace"), f"{' '.join(words)}: status {ran.returncode}", flush=True)
             return False
         # `rt try` also compiles a module of its own, which has no code of the crate
