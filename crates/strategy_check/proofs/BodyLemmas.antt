@@ -4,16 +4,16 @@ use Rattle.std.proofs.Math.Seq.{take-suc}
 use Rattle.term_core.specs.Tree.{Symbol}
 use Rattle.strategy_syntax.specs.Syntax as syntax
 use Rattle.strategy_syntax.specs.Syntax.{Pattern, Patterns, no_patterns, and_pattern, pattern_list, patterns_of, Strategy, Strategies, uses, strategy_list, strategies_of}
-use Rattle.strategy_syntax.specs.Resolved.{ResolvedStrategy, ResolvedStrategies, no_strategies, and_strategy, resolveds_of, resolved_list, Place, place_list, places_of}
+use Rattle.strategy_syntax.specs.Resolved.{ResolvedStrategy, ResolvedStrategies, no_strategies, and_strategy, resolveds_of, resolved_list, ResolvedPattern, resolved_pattern_list, resolved_patterns_of}
 use Rattle.strategy_syntax.specs.ResolvedView.{resolved_of}
 use Rattle.strategy_syntax.specs.declared.resolved.ResolvedForm.{ResolvedForm}
-use Rattle.strategy_syntax.proofs.PlaceLemmas.{place_list-places_of}
+use Rattle.strategy_syntax.proofs.PlaceLemmas.{resolved_pattern_list-of}
 use Rattle.strategy_syntax.proofs.ResolvedLemmas.{resolved_list-resolveds_of}
 use Rattle.strategy_syntax.proofs.StrategyLemmas.{depths-item}
 use Rattle.strategy_check.specs.Tables.{Table, definition_number}
 use Rattle.strategy_check.specs.Faults.{Primitives}
 use Rattle.strategy_names.specs.Binders.{Binder, binder_number}
-use Rattle.strategy_check.specs.Resolving.{Scope, with_variables, places, name_or_other, definition_or_constructor, resolved_strategy, resolved_strategies}
+use Rattle.strategy_check.specs.Resolving.{Scope, with_variables, resolved_patterns, name_or_other, definition_or_constructor, resolved_strategy, resolved_strategies}
 use Rattle.strategy_check.specs.inside.Closing.{without_variables}
 use Rattle.strategy_names.proofs.BinderLemmas.{drop-bound_from}
 use Rattle.strategy_check.proofs.FaultLemmas.{pattern_count, strategy_count}
@@ -54,25 +54,25 @@ module _ (T : Table) (P : Primitives) (E : Scope) where
 
 -- ---- names with strategies and terms
 
-place_count : (bs : List Binder) (ps : Patterns) → length (place_list (places bs ps)) ≡ length (pattern_list ps)
-place_count bs no_patterns = refl
-place_count bs (and_pattern p ps) = ap suc (place_count bs ps)
+resolved_pattern_count : (bs : List Binder) (ps : Patterns) → length (resolved_pattern_list (resolved_patterns bs ps)) ≡ length (pattern_list ps)
+resolved_pattern_count bs no_patterns = refl
+resolved_pattern_count bs (and_pattern p ps) = ap suc (resolved_pattern_count bs ps)
 
 resolved_count : (T : Table) (P : Primitives) (E : Scope) (ss : Strategies) → length (resolved_list (resolved_strategies T P E ss)) ≡ length (strategy_list ss)
 resolved_count T P E syntax.no_strategies = refl
 resolved_count T P E (syntax.and_strategy s ss) = ap suc (resolved_count T P E ss)
 
-module _ (T : Table) (P : Primitives) (E F : Scope) (f : Symbol) (ss : List Strategy) (ps : List Pattern) (rs : List ResolvedStrategy) (qs : List Place) where
+module _ (T : Table) (P : Primitives) (E F : Scope) (f : Symbol) (ss : List Strategy) (ps : List Pattern) (rs : List ResolvedStrategy) (qs : List ResolvedPattern) where
   pub used : {X : Type 0} (r : Result ResolvedForm X) (s : Strategy) → s ≡ uses f (strategies_of ss) (patterns_of ps) → F ≡ E
-      → resolveds_of rs ≡ resolved_strategies T P E (strategies_of ss) → places_of qs ≡ places F.variables (patterns_of ps)
-      → IfOk r (λ form. resolved_of form ≡ name_or_other (binder_number f F.names) (definition_or_constructor f (definition_number T f (length rs) (length qs)) (resolveds_of rs) (places_of qs)))
+      → resolveds_of rs ≡ resolved_strategies T P E (strategies_of ss) → resolved_patterns_of qs ≡ resolved_patterns F.variables (patterns_of ps)
+      → IfOk r (λ form. resolved_of form ≡ name_or_other (binder_number f F.names) (definition_or_constructor f (definition_number T f (length rs) (length qs)) (resolveds_of rs) (resolved_patterns_of qs)))
       → IfOk r (λ form. resolved_of form ≡ resolved_strategy T P E s)
   used r s is same parts terms h =
-      let scopes : places_of qs ≡ places E.variables (patterns_of ps) = terms ∙ ap (λ G. places G.variables (patterns_of ps)) same in
+      let scopes : resolved_patterns_of qs ≡ resolved_patterns E.variables (patterns_of ps) = terms ∙ ap (λ G. resolved_patterns G.variables (patterns_of ps)) same in
       let part_count : length rs ≡ length (strategy_list (strategies_of ss)) =
       ap length (sym (resolved_list-resolveds_of rs)) ∙ ap (λ l. length (resolved_list l)) parts ∙ resolved_count T P E (strategies_of ss) in
       let term_count : length qs ≡ length (pattern_list (patterns_of ps)) =
-      ap length (sym (place_list-places_of qs)) ∙ ap (λ l. length (place_list l)) scopes ∙ place_count E.variables (patterns_of ps) in
+      ap length (sym (resolved_pattern_list-of qs)) ∙ ap (λ l. length (resolved_pattern_list l)) scopes ∙ resolved_pattern_count E.variables (patterns_of ps) in
       subst (λ t. IfOk r (λ form. resolved_of form ≡ t))
       ((λ i. name_or_other (binder_number f (same i).names) (definition_or_constructor f (definition_number T f (part_count i) (term_count i)) (parts i) (scopes i)))
       ∙ sym (ap (resolved_strategy T P E) is)) h

@@ -2,31 +2,31 @@
 use Rattle.std.proofs.Common.{◌≡◌, ℕ, ◌+◌, ◌<◌, List, [], ◌∷◌, ◌++◌, length, get_or, take, add-one, refl, sym, ap, ◌∙◌}
 use Rattle.std.proofs.Math.Seq.{take-suc}
 use Rattle.strategy_syntax.specs.Syntax.{Pattern, patterns_of}
-use Rattle.strategy_syntax.specs.Resolved.{Place, Places, no_places, and_place, places_of}
+use Rattle.strategy_syntax.specs.Resolved.{ResolvedPattern, ResolvedPatterns, no_resolved_patterns, and_resolved_pattern, resolved_patterns_of}
 use Rattle.strategy_syntax.proofs.PatternLemmas.{patterns_depth-item}
 use Rattle.strategy_names.specs.Binders.{Binder}
-use Rattle.strategy_check.specs.Resolving.{place, places}
+use Rattle.strategy_check.specs.Resolving.{resolved_pattern, resolved_patterns}
 
-pub ruleset place_rules = (patterns_depth-item)
+pub ruleset resolved_pattern_rules = (patterns_depth-item)
 
-abbrev then_places : Places → Places → Places
-then_places no_places qs = qs
-then_places (and_place p ps) qs = and_place p (then_places ps qs)
+abbrev then_resolved_patterns : ResolvedPatterns → ResolvedPatterns → ResolvedPatterns
+then_resolved_patterns no_resolved_patterns qs = qs
+then_resolved_patterns (and_resolved_pattern p ps) qs = and_resolved_pattern p (then_resolved_patterns ps qs)
 
-places_of-append : (ps qs : List Place) → places_of (ps ++ qs) ≡ then_places (places_of ps) (places_of qs)
-places_of-append [] qs = refl
-places_of-append (p ∷ ps) qs = ap (and_place p) (places_of-append ps qs)
+resolved_patterns_of-append : (ps qs : List ResolvedPattern) → resolved_patterns_of (ps ++ qs) ≡ then_resolved_patterns (resolved_patterns_of ps) (resolved_patterns_of qs)
+resolved_patterns_of-append [] qs = refl
+resolved_patterns_of-append (p ∷ ps) qs = ap (and_resolved_pattern p) (resolved_patterns_of-append ps qs)
 
-places-append : (bs : List Binder) (ps qs : List Pattern) → places bs (patterns_of (ps ++ qs)) ≡ then_places (places bs (patterns_of ps)) (places bs (patterns_of qs))
-places-append bs [] qs = refl
-places-append bs (p ∷ ps) qs = ap (and_place (place bs p)) (places-append bs ps qs)
+resolved_patterns-append : (bs : List Binder) (ps qs : List Pattern) → resolved_patterns bs (patterns_of (ps ++ qs)) ≡ then_resolved_patterns (resolved_patterns bs (patterns_of ps)) (resolved_patterns bs (patterns_of qs))
+resolved_patterns-append bs [] qs = refl
+resolved_patterns-append bs (p ∷ ps) qs = ap (and_resolved_pattern (resolved_pattern bs p)) (resolved_patterns-append bs ps qs)
 
 -- one more pattern
-pub places-next : (bs : List Binder) (ps : List Pattern) (made more : List Place) (r : Place) (i : ℕ) (p : Pattern) → i < length ps → p ≡ get_or ps i p
-    → places_of made ≡ places bs (patterns_of (take i ps)) → more ≡ made ++ r ∷ [] → r ≡ place bs p
-    → places_of more ≡ places bs (patterns_of (take (i + 1) ps))
-places-next bs ps made more r i p lt at same e is =
-    rw add-one (ap places_of e ∙ places_of-append made (r ∷ [])
-    ∙ (λ j. then_places (same j) (and_place (is j) no_places))
-    ∙ sym (places-append bs (take i ps) (p ∷ []))
-    ∙ ap (λ l. places bs (patterns_of l)) (ap (λ q. take i ps ++ q ∷ []) at ∙ sym (take-suc ps i p lt)))
+pub resolved_patterns-next : (bs : List Binder) (ps : List Pattern) (made more : List ResolvedPattern) (r : ResolvedPattern) (i : ℕ) (p : Pattern) → i < length ps → p ≡ get_or ps i p
+    → resolved_patterns_of made ≡ resolved_patterns bs (patterns_of (take i ps)) → more ≡ made ++ r ∷ [] → r ≡ resolved_pattern bs p
+    → resolved_patterns_of more ≡ resolved_patterns bs (patterns_of (take (i + 1) ps))
+resolved_patterns-next bs ps made more r i p lt at same e is =
+    rw add-one (ap resolved_patterns_of e ∙ resolved_patterns_of-append made (r ∷ [])
+    ∙ (λ j. then_resolved_patterns (same j) (and_resolved_pattern (is j) no_resolved_patterns))
+    ∙ sym (resolved_patterns-append bs (take i ps) (p ∷ []))
+    ∙ ap (λ l. resolved_patterns bs (patterns_of l)) (ap (λ q. take i ps ++ q ∷ []) at ∙ sym (take-suc ps i p lt)))

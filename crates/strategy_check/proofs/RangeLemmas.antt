@@ -10,15 +10,15 @@ use Rattle.term_core.specs.Tree.{Symbol, same_name}
 use Rattle.prim_core.specs.Signature as primitive
 use Rattle.prim_core.proofs.SignatureLemmas.{index_of-there}
 use Rattle.strategy_syntax.specs.Syntax.{Pattern, wildcard, variable, at, number, compound, with_tail, annotated, Patterns, no_patterns, and_pattern, pattern_list, Strategy, id, fail, matches, builds, seq, guard, test, scope, uses, congruence, tail_congruence, all, one, some, child, rec, prim, Strategies, no_strategies, and_strategy, strategy_list}
-use Rattle.strategy_syntax.specs.Resolved.{Places, ResolvedStrategies, resolved_list, place_list}
+use Rattle.strategy_syntax.specs.Resolved.{ResolvedPatterns, ResolvedStrategies, resolved_list, resolved_pattern_list}
 use Rattle.strategy_syntax.specs.Variables.{variables, variables_of_all}
 use Rattle.strategy_syntax.specs.Lists.{is_among, without}
 use Rattle.strategy_names.specs.Binders.{Binder, binder_number, bound_from}
 use Rattle.strategy_check.specs.Tables.{DefinitionKey, same_key, Table, definition_number}
 use Rattle.strategy_check.specs.Faults.{Fault, Primitives, is_primitive, fault_if, repeated_names, name_faults, faults_of_patterns, strategy_faults, faults_of_strategies}
 use Rattle.strategy_names.specs.Free.{free, free_in_all}
-use Rattle.strategy_check.specs.Resolving.{Scope, with_variables, with_name, variable_number, place, places, name_or_other, definition_or_constructor, resolved_strategy, resolved_strategies}
-use Rattle.strategy_check.specs.Ranges.{PlaceInRange, PlacesInRange, InRange, AllInRange}
+use Rattle.strategy_check.specs.Resolving.{Scope, with_variables, with_name, variable_number, resolved_pattern, resolved_patterns, name_or_other, definition_or_constructor, resolved_strategy, resolved_strategies}
+use Rattle.strategy_check.specs.Ranges.{ResolvedPatternInRange, ResolvedPatternsInRange, InRange, AllInRange}
 use Rattle.strategy_names.proofs.FreeLemmas.{bound_number}
 
 -- ---- binders
@@ -82,27 +82,27 @@ variable-below n bs x below there = by (binder_number x bs) refl there where
 
 module _ (n : ℕ) (bs : List Binder) (below : AreBelow n bs) where
   mutual
-    pub place-range : (p : Pattern) → AreBound bs (variables p) → PlaceInRange n (place bs p)
-    place-range wildcard h = tt
-    place-range (variable x) h = variable-below n bs x below h.0
-    place-range (at x p) h = (variable-below n bs x below h.0, place-range p h.1)
-    place-range (number z) h = tt
-    place-range (compound g ps) h = places-range ps h
-    place-range (with_tail ps p) h =
-        (places-range ps (bound-left bs (variables_of_all ps) (variables p) h), place-range p (bound-right bs (variables_of_all ps) (variables p) h))
-    place-range (annotated p ps) h =
-        (place-range p (bound-left bs (variables p) (variables_of_all ps) h), places-range ps (bound-right bs (variables p) (variables_of_all ps) h))
+    pub resolved_pattern-range : (p : Pattern) → AreBound bs (variables p) → ResolvedPatternInRange n (resolved_pattern bs p)
+    resolved_pattern-range wildcard h = tt
+    resolved_pattern-range (variable x) h = variable-below n bs x below h.0
+    resolved_pattern-range (at x p) h = (variable-below n bs x below h.0, resolved_pattern-range p h.1)
+    resolved_pattern-range (number z) h = tt
+    resolved_pattern-range (compound g ps) h = resolved_patterns-range ps h
+    resolved_pattern-range (with_tail ps p) h =
+        (resolved_patterns-range ps (bound-left bs (variables_of_all ps) (variables p) h), resolved_pattern-range p (bound-right bs (variables_of_all ps) (variables p) h))
+    resolved_pattern-range (annotated p ps) h =
+        (resolved_pattern-range p (bound-left bs (variables p) (variables_of_all ps) h), resolved_patterns-range ps (bound-right bs (variables p) (variables_of_all ps) h))
 
-    pub places-range : (ps : Patterns) → AreBound bs (variables_of_all ps) → PlacesInRange n (places bs ps)
-    places-range no_patterns h = tt
-    places-range (and_pattern p ps) h =
-        (place-range p (bound-left bs (variables p) (variables_of_all ps) h), places-range ps (bound-right bs (variables p) (variables_of_all ps) h))
+    pub resolved_patterns-range : (ps : Patterns) → AreBound bs (variables_of_all ps) → ResolvedPatternsInRange n (resolved_patterns bs ps)
+    resolved_patterns-range no_patterns h = tt
+    resolved_patterns-range (and_pattern p ps) h =
+        (resolved_pattern-range p (bound-left bs (variables p) (variables_of_all ps) h), resolved_patterns-range ps (bound-right bs (variables p) (variables_of_all ps) h))
 
 -- ---- the number of parts stays the same
 
-place_count : (bs : List Binder) (ps : Patterns) → length (place_list (places bs ps)) ≡ length (pattern_list ps)
-place_count bs no_patterns = refl
-place_count bs (and_pattern p ps) = ap suc (place_count bs ps)
+resolved_pattern_count : (bs : List Binder) (ps : Patterns) → length (resolved_pattern_list (resolved_patterns bs ps)) ≡ length (pattern_list ps)
+resolved_pattern_count bs no_patterns = refl
+resolved_pattern_count bs (and_pattern p ps) = ap suc (resolved_pattern_count bs ps)
 
 resolved_count : (T : Table) (P : Primitives) (E : Scope) (ss : Strategies) → length (resolved_list (resolved_strategies T P E ss)) ≡ length (strategy_list ss)
 resolved_count T P E no_strategies = refl
@@ -163,9 +163,9 @@ no_fault false kind f n m e = absurd (cc)
 
 module _ (T : Table) (P : Primitives) where
   -- a name, with parts in range
-  name_range : (n k : ℕ) (f : Symbol) (o : Option ℕ) (d : Option ℕ) (rs : ResolvedStrategies) (qs : Places)
-      → IfSome o (λ x. x < k) → IfSome d (λ i. IsSomeAnd (slice_get T.definitions i) (λ k. (k.strategies ≡ length (resolved_list rs)) × (k.terms ≡ length (place_list qs))))
-      → AllInRange T.definitions P n k rs → PlacesInRange n qs
+  name_range : (n k : ℕ) (f : Symbol) (o : Option ℕ) (d : Option ℕ) (rs : ResolvedStrategies) (qs : ResolvedPatterns)
+      → IfSome o (λ x. x < k) → IfSome d (λ i. IsSomeAnd (slice_get T.definitions i) (λ k. (k.strategies ≡ length (resolved_list rs)) × (k.terms ≡ length (resolved_pattern_list qs))))
+      → AllInRange T.definitions P n k rs → ResolvedPatternsInRange n qs
       → InRange T.definitions P n k (name_or_other o (definition_or_constructor f d rs qs))
   name_range n k f (Some x) d rs qs below defined parts terms = below
   name_range n k f None (Some i) rs qs below defined parts terms = (defined, (parts, terms))
@@ -176,8 +176,8 @@ module _ (T : Table) (P : Primitives) where
         → strategy_faults T P E.names s ≡ [] → InRange T.definitions P E.count (length E.names) (resolved_strategy T P E s)
     strategy_range E id below named bound e = tt
     strategy_range E fail below named bound e = tt
-    strategy_range E (matches p) below named bound e = place-range E.count E.variables below p bound
-    strategy_range E (builds p) below named bound e = place-range E.count E.variables below p bound
+    strategy_range E (matches p) below named bound e = resolved_pattern-range E.count E.variables below p bound
+    strategy_range E (builds p) below named bound e = resolved_pattern-range E.count E.variables below p bound
     strategy_range E (seq r s) below named bound e = (
       strategy_range E r below named (bound-left E.variables (free r) (free s) bound) (left-none (strategy_faults T P E.names r) (strategy_faults T P E.names s) e),
       strategy_range E s below named (bound-right E.variables (free r) (free s) bound) (right-none (strategy_faults T P E.names r) (strategy_faults T P E.names s) e),
@@ -200,13 +200,13 @@ module _ (T : Table) (P : Primitives) where
         let n = length (strategy_list ss) in
         let m = length (pattern_list ps) in
         let later = right-none (name_faults T E.names f n m) (faults_of_strategies T P E.names ss ++ faults_of_patterns T true ps) e in
-        name_range E.count (length E.names) f (binder_number f E.names) (definition_number T f n m) (resolved_strategies T P E ss) (places E.variables ps)
+        name_range E.count (length E.names) f (binder_number f E.names) (definition_number T f n m) (resolved_strategies T P E ss) (resolved_patterns E.variables ps)
         (number-below (length E.names) E.names f (binder_number f E.names) refl named)
-        (subst (λ a. IfSome (definition_number T f n m) (λ i. IsSomeAnd (slice_get T.definitions i) (λ k. (k.strategies ≡ a) × (k.terms ≡ length (place_list (places E.variables ps)))))) (sym (resolved_count T P E ss))
-        (subst (λ b. IfSome (definition_number T f n m) (λ i. IsSomeAnd (slice_get T.definitions i) (λ k. (k.strategies ≡ n) × (k.terms ≡ b)))) (sym (place_count E.variables ps))
+        (subst (λ a. IfSome (definition_number T f n m) (λ i. IsSomeAnd (slice_get T.definitions i) (λ k. (k.strategies ≡ a) × (k.terms ≡ length (resolved_pattern_list (resolved_patterns E.variables ps)))))) (sym (resolved_count T P E ss))
+        (subst (λ b. IfSome (definition_number T f n m) (λ i. IsSomeAnd (slice_get T.definitions i) (λ k. (k.strategies ≡ n) × (k.terms ≡ b)))) (sym (resolved_pattern_count E.variables ps))
         (numbered T f n m (definition_number T f n m) refl)))
         (strategies_range E ss below named (bound-left E.variables (free_in_all ss) (variables_of_all ps) bound) (left-none (faults_of_strategies T P E.names ss) (faults_of_patterns T true ps) later))
-        (places-range E.count E.variables below ps (bound-right E.variables (free_in_all ss) (variables_of_all ps) bound))
+        (resolved_patterns-range E.count E.variables below ps (bound-right E.variables (free_in_all ss) (variables_of_all ps) bound))
     strategy_range E (congruence h ss) below named bound e = strategies_range E ss below named bound e
     strategy_range E (tail_congruence ss s) below named bound e = (
       strategies_range E ss below named (bound-left E.variables (free_in_all ss) (free s) bound) (left-none (faults_of_strategies T P E.names ss) (strategy_faults T P E.names s) e),
@@ -220,9 +220,9 @@ module _ (T : Table) (P : Primitives) where
         strategy_range (with_name E f) s below (omega arith, below-more (length E.names) (suc (length E.names)) E.names (omega arith) named) bound e
     strategy_range E (prim n ps) below named bound e =
         let m = length (pattern_list ps) in (
-          subst (λ k. IsSomeAnd (slice_get P (unwrap_or (primitive.index_of n.text m P) 0)) (λ p. k ≡ p.arity)) (sym (place_count E.variables ps))
+          subst (λ k. IsSomeAnd (slice_get P (unwrap_or (primitive.index_of n.text m P) 0)) (λ p. k ≡ p.arity)) (sym (resolved_pattern_count E.variables ps))
               (primitive_range P n m (primitive.index_of n.text m P) refl (no_fault (is_primitive P n m) Primitive n m 0 (left-none (fault_if (not (is_primitive P n m)) Primitive n m 0) (faults_of_patterns T true ps) e))),
-          places-range E.count E.variables below ps bound,
+          resolved_patterns-range E.count E.variables below ps bound,
         )
 
     strategies_range : (E : Scope) (ss : Strategies) → AreBelow E.count E.variables → AreBelow (length E.names) E.names → AreBound E.variables (free_in_all ss)

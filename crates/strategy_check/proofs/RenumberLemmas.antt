@@ -7,17 +7,17 @@ use Rattle.strategy_syntax.specs.Syntax.{pattern_list, Strategy, id, fail, match
 use Rattle.strategy_syntax.specs.Modules.{Definition}
 use Rattle.strategy_syntax.specs.Renumbering.{new_number, renumbered, all_renumbered}
 use Rattle.strategy_syntax.specs.Resolved as resolved
-use Rattle.strategy_syntax.specs.Resolved.{Places, ResolvedStrategy, ResolvedStrategies}
+use Rattle.strategy_syntax.specs.Resolved.{ResolvedPatterns, ResolvedStrategy, ResolvedStrategies}
 use Rattle.strategy_names.specs.Binders.{binder_number}
 use Rattle.strategy_check.specs.Tables.{DefinitionKey, Table, definition_number}
 use Rattle.strategy_check.specs.Faults.{Primitives}
-use Rattle.strategy_check.specs.Resolving.{Scope, with_variables, with_name, places, name_or_other, definition_or_constructor, resolved_strategy, resolved_strategies}
+use Rattle.strategy_check.specs.Resolving.{Scope, with_variables, with_name, resolved_patterns, name_or_other, definition_or_constructor, resolved_strategy, resolved_strategies}
 use Rattle.strategy_check.specs.Programs.{free_of, scope_of, variable_count, term_count, resolved_bodies, joined, joined_definition, is_number, of_number, groups_from}
 use Rattle.strategy_check.specs.inside.Mentions.{NameCovered, Covered, AllCovered, BodiesCovered, Renumbers}
 use Rattle.strategy_check.specs.inside.Replacing.{renumbered_definition}
 
 -- a name that is a definition or a constructor
-renumbered-number : (numbers : List ℕ) (f : Symbol) (o : Option ℕ) (ss : ResolvedStrategies) (ps : Places)
+renumbered-number : (numbers : List ℕ) (f : Symbol) (o : Option ℕ) (ss : ResolvedStrategies) (ps : ResolvedPatterns)
     → definition_or_constructor f (option_map (new_number numbers) o) (all_renumbered numbers ss) ps ≡ renumbered numbers (definition_or_constructor f o ss ps)
 renumbered-number numbers f None ss ps = refl
 renumbered-number numbers f (Some k) ss ps = refl
@@ -40,7 +40,7 @@ module _ (M : Table) where
     by false rest = rest
 
 module _ (M : Table) (numbers : List ℕ) (T : Table) (T' : Table) (P : Primitives) (renumbers : Renumbers M numbers T T') where
-  renumbered-name : (f : Symbol) (n m : ℕ) (o : Option ℕ) (ss : ResolvedStrategies) (ps : Places) → NameCovered M (is_some o) f n m
+  renumbered-name : (f : Symbol) (n m : ℕ) (o : Option ℕ) (ss : ResolvedStrategies) (ps : ResolvedPatterns) → NameCovered M (is_some o) f n m
       → name_or_other o (definition_or_constructor f (definition_number T' f n m) (all_renumbered numbers ss) ps)
       ≡ renumbered numbers (name_or_other o (definition_or_constructor f (definition_number T f n m) ss ps))
   renumbered-name f n m (Some x) ss ps covered = refl
@@ -62,8 +62,8 @@ module _ (M : Table) (numbers : List ℕ) (T : Table) (T' : Table) (P : Primitiv
     renumbered-strategy E (uses f ss ps) covered =
         let n = length (strategy_list ss) in
         let m = length (pattern_list ps) in
-        ap (λ rs. name_or_other (binder_number f E.names) (definition_or_constructor f (definition_number T' f n m) rs (places E.variables ps))) (renumbered-strategies E ss covered.1.0)
-        ∙ renumbered-name f n m (binder_number f E.names) (resolved_strategies T P E ss) (places E.variables ps) covered.0
+        ap (λ rs. name_or_other (binder_number f E.names) (definition_or_constructor f (definition_number T' f n m) rs (resolved_patterns E.variables ps))) (renumbered-strategies E ss covered.1.0)
+        ∙ renumbered-name f n m (binder_number f E.names) (resolved_strategies T P E ss) (resolved_patterns E.variables ps) covered.0
     renumbered-strategy E (congruence h ss) covered = ap (resolved.congruence h) (renumbered-strategies E ss covered)
     renumbered-strategy E (tail_congruence ss s) covered = λ i.
         resolved.tail_congruence (renumbered-strategies E ss covered.0 i) (renumbered-strategy E s covered.1 i)

@@ -1,6 +1,6 @@
 -- When each number in a resolved strategy is in range.
 use Rattle.std.specs.Prelude.{◌≡◌, ℕ, suc, ◌+◌, ◌<◌, List, length, slice_get, IsSomeAnd, Some, ⊤}
-use Rattle.strategy_syntax.specs.Resolved.{Place, wildcard, variable, at, number, compound, with_tail, annotated, Places, no_places, and_place, place_list, ResolvedStrategy, id, fail, matches, builds, seq, guard, test, scope, param, call, congruence, tail_congruence, all, one, some, child, rec, prim, ResolvedStrategies, no_strategies, and_strategy, resolved_list}
+use Rattle.strategy_syntax.specs.Resolved.{ResolvedPattern, wildcard, variable, at, number, compound, with_tail, annotated, ResolvedPatterns, no_resolved_patterns, and_resolved_pattern, resolved_pattern_list, ResolvedStrategy, id, fail, matches, builds, seq, guard, test, scope, param, call, congruence, tail_congruence, all, one, some, child, rec, prim, ResolvedStrategies, no_strategies, and_strategy, resolved_list}
 use Rattle.strategy_syntax.specs.declared.resolved.Resolved.{Resolved}
 use Rattle.strategy_check.specs.Tables.{DefinitionKey}
 use Rattle.strategy_check.specs.Faults.{Primitives}
@@ -8,18 +8,18 @@ use Rattle.strategy_check.specs.Programs.{Program}
 
 -- each variable is below the number of variables
 abbrev mutual
-  pub PlaceInRange : ℕ → Place → Type 0
-  PlaceInRange n wildcard = ⊤
-  PlaceInRange n (variable x) = x < n
-  PlaceInRange n (at x p) = (x < n) × PlaceInRange n p
-  PlaceInRange n (number z) = ⊤
-  PlaceInRange n (compound h ps) = PlacesInRange n ps
-  PlaceInRange n (with_tail ps p) = PlacesInRange n ps × PlaceInRange n p
-  PlaceInRange n (annotated p ps) = PlaceInRange n p × PlacesInRange n ps
+  pub ResolvedPatternInRange : ℕ → ResolvedPattern → Type 0
+  ResolvedPatternInRange n wildcard = ⊤
+  ResolvedPatternInRange n (variable x) = x < n
+  ResolvedPatternInRange n (at x p) = (x < n) × ResolvedPatternInRange n p
+  ResolvedPatternInRange n (number z) = ⊤
+  ResolvedPatternInRange n (compound h ps) = ResolvedPatternsInRange n ps
+  ResolvedPatternInRange n (with_tail ps p) = ResolvedPatternsInRange n ps × ResolvedPatternInRange n p
+  ResolvedPatternInRange n (annotated p ps) = ResolvedPatternInRange n p × ResolvedPatternsInRange n ps
 
-  pub PlacesInRange : ℕ → Places → Type 0
-  PlacesInRange n no_places = ⊤
-  PlacesInRange n (and_place p ps) = PlaceInRange n p × PlacesInRange n ps
+  pub ResolvedPatternsInRange : ℕ → ResolvedPatterns → Type 0
+  ResolvedPatternsInRange n no_resolved_patterns = ⊤
+  ResolvedPatternsInRange n (and_resolved_pattern p ps) = ResolvedPatternInRange n p × ResolvedPatternsInRange n ps
 
 -- Given the numbers of variables and strategy names in scope: the numbers of variables and names
 -- are below them, a call is of a definition that takes as many strategies and terms, and a
@@ -28,16 +28,16 @@ abbrev mutual
   pub InRange : List DefinitionKey → Primitives → ℕ → ℕ → ResolvedStrategy → Type 0
   InRange D P n m id = ⊤
   InRange D P n m fail = ⊤
-  InRange D P n m (matches p) = PlaceInRange n p
-  InRange D P n m (builds p) = PlaceInRange n p
+  InRange D P n m (matches p) = ResolvedPatternInRange n p
+  InRange D P n m (builds p) = ResolvedPatternInRange n p
   InRange D P n m (seq r s) = InRange D P n m r × InRange D P n m s
   InRange D P n m (guard q r s) = InRange D P n m q × (InRange D P n m r × InRange D P n m s)
   InRange D P n m (test s) = InRange D P n m s
   InRange D P n m (scope k s) = InRange D P (n + k) m s
   InRange D P n m (param x) = x < m
   InRange D P n m (call f ss ps) =
-      IsSomeAnd (slice_get D f) (λ k. (k.strategies ≡ length (resolved_list ss)) × (k.terms ≡ length (place_list ps)))
-      × (AllInRange D P n m ss × PlacesInRange n ps)
+      IsSomeAnd (slice_get D f) (λ k. (k.strategies ≡ length (resolved_list ss)) × (k.terms ≡ length (resolved_pattern_list ps)))
+      × (AllInRange D P n m ss × ResolvedPatternsInRange n ps)
   InRange D P n m (congruence h ss) = AllInRange D P n m ss
   InRange D P n m (tail_congruence ss s) = AllInRange D P n m ss × InRange D P n m s
   InRange D P n m (all s) = InRange D P n m s
@@ -46,7 +46,7 @@ abbrev mutual
   InRange D P n m (child i s) = InRange D P n m s
   InRange D P n m (rec s) = InRange D P n (suc m) s
   InRange D P n m (prim f ps) =
-      IsSomeAnd (slice_get P f) (λ p. length (place_list ps) ≡ p.arity) × PlacesInRange n ps
+      IsSomeAnd (slice_get P f) (λ p. length (resolved_pattern_list ps) ≡ p.arity) × ResolvedPatternsInRange n ps
 
   pub AllInRange : List DefinitionKey → Primitives → ℕ → ℕ → ResolvedStrategies → Type 0
   AllInRange D P n m no_strategies = ⊤

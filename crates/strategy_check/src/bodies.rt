@@ -7,18 +7,20 @@
 ghost use Rattle.std.specs.Prelude.{◌≡◌, IfOk, OnOk, length, Some};
 ghost use Rattle.strategy_syntax.specs.Syntax as syntax;
 ghost use Rattle.strategy_syntax.specs.Syntax.{strategies_of, seq, guard, rec};
-ghost use Rattle.strategy_syntax.specs.Resolved.{resolveds_of, places_of};
+ghost use Rattle.strategy_syntax.specs.Resolved.{resolveds_of, resolved_patterns_of};
 ghost use Rattle.strategy_syntax.specs.ResolvedView.{resolved_of};
 ghost use Rattle.strategy_names.specs.Binders.{binder_number};
 ghost use Rattle.strategy_check.specs.Tables.{definition_number};
 ghost use Rattle.strategy_check.specs.Resolving.{resolved_strategy, resolved_strategies, name_or_other, definition_or_constructor};
 
-use crate::places::{resolve_pattern, resolve_patterns};
+use crate::resolved_patterns::{resolve_pattern, resolve_patterns};
 use crate::scope::Scope;
 use crate::table::Table;
 use prim_core::{Meaning, Primitives};
 use std::alloc::Global;
-use strategy_syntax::{Head, Place, ResolvedForm, ResolvedStrategy, Strategy, StrategyForm};
+use strategy_syntax::{
+    Head, ResolvedForm, ResolvedPattern, ResolvedStrategy, Strategy, StrategyForm,
+};
 use term_core::{Name, NoMemory};
 
 /// Resolves the strategy, whose names have no faults.
@@ -256,13 +258,13 @@ fn resolve_use(
     scope: &Scope,
     name: &Name,
     parts: Vec<ResolvedStrategy>,
-    terms: Vec<Place>,
+    terms: Vec<ResolvedPattern>,
 ) -> Result<ResolvedForm, NoMemory>
     ensures { IfOk result (λ form. resolved_of form
         ≡ name_or_other (binder_number name.now scope.now.names)
         (definition_or_constructor name.now
         (definition_number table.now name.now (length parts.items) (length terms.items))
-        (resolveds_of parts.items) (places_of terms.items))) }
+        (resolveds_of parts.items) (resolved_patterns_of terms.items))) }
 {
     if let Some(number) = scope.strategy(name) {
         return Ok(ResolvedForm::Param(number));

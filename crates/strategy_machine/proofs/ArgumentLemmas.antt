@@ -4,8 +4,8 @@ use Rattle.std.proofs.lemmas.List.{append-nil, append_assoc, map-append, take_al
 use Rattle.std.proofs.Math.Seq.{take-suc}
 use Rattle.term_core.specs.Tree.{Tree}
 use Rattle.term_core.specs.Size.{fits}
-use Rattle.strategy_syntax.specs.Resolved.{Place, places_of}
-use Rattle.strategy_meaning.specs.Matching.{build_place}
+use Rattle.strategy_syntax.specs.Resolved.{ResolvedPattern, resolved_patterns_of}
+use Rattle.strategy_meaning.specs.Matching.{build_pattern}
 use Rattle.strategy_meaning.specs.Answer.{Answer, failed, stopped, big}
 use Rattle.strategy_meaning.specs.Meaning.{built, built_all}
 use Rattle.term_match.specs.CellContents.{CellContents}
@@ -50,61 +50,61 @@ opened_all old new us i le h = h.cells ∙ ap (λ x. old.bindings ++ map Some x)
 
 -- ---- built
 
-pub record BuiltSoFar (room : ℕ) (old new : CellContents) (ps : List Place) (E : List ℕ) (l i : ℕ) (us : List Tree) : Type 0 where
+pub record BuiltSoFar (room : ℕ) (old new : CellContents) (ps : List ResolvedPattern) (E : List ℕ) (l i : ℕ) (us : List Tree) : Type 0 where
   pub cells : new ≡ old
-  pub built : (c : ℕ) (go : List Tree → Answer) → built_all room (places_of ps) E old.bindings l c go ≡ built_all room (places_of (drop i ps)) E old.bindings l c (λ vs. go (us ++ vs))
+  pub built : (c : ℕ) (go : List Tree → Answer) → built_all room (resolved_patterns_of ps) E old.bindings l c go ≡ built_all room (resolved_patterns_of (drop i ps)) E old.bindings l c (λ vs. go (us ++ vs))
 
-pub built_none : (room : ℕ) (C : CellContents) (ps : List Place) (E : List ℕ) (l : ℕ) (us : List Tree) → us ≡ [] → BuiltSoFar room C C ps E l 0 us
+pub built_none : (room : ℕ) (C : CellContents) (ps : List ResolvedPattern) (E : List ℕ) (l : ℕ) (us : List Tree) → us ≡ [] → BuiltSoFar room C C ps E l 0 us
 built_none room C ps E l us e = rw e record { cells = refl; built = λ c go. refl }
 
-dropped_suc : (ps : List Place) (i : ℕ) (p : Place) → i < length ps → p ≡ get_or ps i p → drop i ps ≡ p ∷ drop (suc i) ps
+dropped_suc : (ps : List ResolvedPattern) (i : ℕ) (p : ResolvedPattern) → i < length ps → p ≡ get_or ps i p → drop i ps ≡ p ∷ drop (suc i) ps
 dropped_suc [] i p lt e = absurd (omega (arith, lt))
 dropped_suc (q ∷ ps) zero p lt e = ap (λ x. x ∷ ps) (sym e)
 dropped_suc (q ∷ ps) (suc i) p lt e = dropped_suc ps i p (omega (arith, lt)) e
 
-dropped : (ps : List Place) (i : ℕ) (p : Place) → i < length ps → p ≡ get_or ps i p → drop i ps ≡ p ∷ drop (i + 1) ps
+dropped : (ps : List ResolvedPattern) (i : ℕ) (p : ResolvedPattern) → i < length ps → p ≡ get_or ps i p → drop i ps ≡ p ∷ drop (i + 1) ps
 dropped ps i p lt e = dropped_suc ps i p lt e ∙ ap (λ k. p ∷ drop k ps) (sym (next i))
 
 -- the next one
-here : (room : ℕ) (old new : CellContents) (ps : List Place) (E : List ℕ) (l i : ℕ) (us : List Tree) (p : Place) → i < length ps → p ≡ get_or ps i p → BuiltSoFar room old new ps E l i us
-    → (c : ℕ) (go : List Tree → Answer) → built_all room (places_of ps) E old.bindings l c go
-    ≡ built room (build_place p E old.bindings) l c (λ u. built_all room (places_of (drop (i + 1) ps)) E old.bindings l c (λ vs. go (us ++ u ∷ vs)))
+here : (room : ℕ) (old new : CellContents) (ps : List ResolvedPattern) (E : List ℕ) (l i : ℕ) (us : List Tree) (p : ResolvedPattern) → i < length ps → p ≡ get_or ps i p → BuiltSoFar room old new ps E l i us
+    → (c : ℕ) (go : List Tree → Answer) → built_all room (resolved_patterns_of ps) E old.bindings l c go
+    ≡ built room (build_pattern p E old.bindings) l c (λ u. built_all room (resolved_patterns_of (drop (i + 1) ps)) E old.bindings l c (λ vs. go (us ++ u ∷ vs)))
 here room old new ps E l i us p lt e h c go =
-    h.built c go ∙ ap (λ (qs : List Place). built_all room (places_of qs) E old.bindings l c (λ vs. go (us ++ vs))) (dropped ps i p lt e)
+    h.built c go ∙ ap (λ (qs : List ResolvedPattern). built_all room (resolved_patterns_of qs) E old.bindings l c (λ vs. go (us ++ vs))) (dropped ps i p lt e)
 
-pub built_more : (room : ℕ) (old new : CellContents) (ps : List Place) (E : List ℕ) (l i : ℕ) (us vs : List Tree) (p : Place) (u : Tree) → i < length ps → p ≡ get_or ps i p
-    → build_place p E new.bindings ≡ Some u → fits room l u ≡ true → vs ≡ us ++ u ∷ []
+pub built_more : (room : ℕ) (old new : CellContents) (ps : List ResolvedPattern) (E : List ℕ) (l i : ℕ) (us vs : List Tree) (p : ResolvedPattern) (u : Tree) → i < length ps → p ≡ get_or ps i p
+    → build_pattern p E new.bindings ≡ Some u → fits room l u ≡ true → vs ≡ us ++ u ∷ []
     → BuiltSoFar room old new ps E l i us → BuiltSoFar room old new ps E l (i + 1) vs
 built_more room old new ps E l i us vs p u lt e b f is h = record {
   cells = h.cells;
   built = λ c go. here room old new ps E l i us p lt e h c go
-      ∙ built_is room l c u (build_place p E old.bindings) _ (ap (λ (C : CellContents). build_place p E C.bindings) (sym h.cells) ∙ b) f
-      ∙ ap (λ (f : List Tree → List Tree). built_all room (places_of (drop (i + 1) ps)) E old.bindings l c (λ ws. go (f ws)))
+      ∙ built_is room l c u (build_pattern p E old.bindings) _ (ap (λ (C : CellContents). build_pattern p E C.bindings) (sym h.cells) ∙ b) f
+      ∙ ap (λ (f : List Tree → List Tree). built_all room (resolved_patterns_of (drop (i + 1) ps)) E old.bindings l c (λ ws. go (f ws)))
       ((λ j ws. sym (append_assoc us (u ∷ []) ws) j) ∙ (λ j ws. sym is j ++ ws));
 }
 
-pub built_nothing : (room : ℕ) (old new : CellContents) (ps : List Place) (E : List ℕ) (l i : ℕ) (us : List Tree) (p : Place) → i < length ps → p ≡ get_or ps i p
-    → build_place p E new.bindings ≡ None → BuiltSoFar room old new ps E l i us
-    → (c : ℕ) (go : List Tree → Answer) → built_all room (places_of ps) E old.bindings l c go ≡ failed c
+pub built_nothing : (room : ℕ) (old new : CellContents) (ps : List ResolvedPattern) (E : List ℕ) (l i : ℕ) (us : List Tree) (p : ResolvedPattern) → i < length ps → p ≡ get_or ps i p
+    → build_pattern p E new.bindings ≡ None → BuiltSoFar room old new ps E l i us
+    → (c : ℕ) (go : List Tree → Answer) → built_all room (resolved_patterns_of ps) E old.bindings l c go ≡ failed c
 built_nothing room old new ps E l i us p lt e b h c go =
     here room old new ps E l i us p lt e h c go
-    ∙ unbuilt_is room l c (build_place p E old.bindings) _ (ap (λ (C : CellContents). build_place p E C.bindings) (sym h.cells) ∙ b)
+    ∙ unbuilt_is room l c (build_pattern p E old.bindings) _ (ap (λ (C : CellContents). build_pattern p E C.bindings) (sym h.cells) ∙ b)
 
-pub built_big : (room : ℕ) (old new : CellContents) (ps : List Place) (E : List ℕ) (l i : ℕ) (us : List Tree) (p : Place) (u : Tree) → i < length ps → p ≡ get_or ps i p
-    → build_place p E new.bindings ≡ Some u → fits room l u ≡ false → BuiltSoFar room old new ps E l i us
-    → (c : ℕ) (go : List Tree → Answer) → built_all room (places_of ps) E old.bindings l c go ≡ stopped big
+pub built_big : (room : ℕ) (old new : CellContents) (ps : List ResolvedPattern) (E : List ℕ) (l i : ℕ) (us : List Tree) (p : ResolvedPattern) (u : Tree) → i < length ps → p ≡ get_or ps i p
+    → build_pattern p E new.bindings ≡ Some u → fits room l u ≡ false → BuiltSoFar room old new ps E l i us
+    → (c : ℕ) (go : List Tree → Answer) → built_all room (resolved_patterns_of ps) E old.bindings l c go ≡ stopped big
 built_big room old new ps E l i us p u lt e b f h c go =
     here room old new ps E l i us p lt e h c go
-    ∙ big_is room l c u (build_place p E old.bindings) _ (ap (λ (C : CellContents). build_place p E C.bindings) (sym h.cells) ∙ b) f
+    ∙ big_is room l c u (build_pattern p E old.bindings) _ (ap (λ (C : CellContents). build_pattern p E C.bindings) (sym h.cells) ∙ b) f
 
-past : (ps : List Place) (i : ℕ) → length ps ≤ i → drop i ps ≡ []
+past : (ps : List ResolvedPattern) (i : ℕ) → length ps ≤ i → drop i ps ≡ []
 past [] zero le = refl
 past [] (suc i) le = refl
 past (p ∷ ps) zero le = absurd (omega (arith, le))
 past (p ∷ ps) (suc i) le = past ps i (omega (arith, le))
 
-pub built_over : (room : ℕ) (old new : CellContents) (ps : List Place) (E : List ℕ) (l i : ℕ) (us : List Tree) → length ps ≤ i → BuiltSoFar room old new ps E l i us
-    → (c : ℕ) (go : List Tree → Answer) → built_all room (places_of ps) E old.bindings l c go ≡ go us
+pub built_over : (room : ℕ) (old new : CellContents) (ps : List ResolvedPattern) (E : List ℕ) (l i : ℕ) (us : List Tree) → length ps ≤ i → BuiltSoFar room old new ps E l i us
+    → (c : ℕ) (go : List Tree → Answer) → built_all room (resolved_patterns_of ps) E old.bindings l c go ≡ go us
 built_over room old new ps E l i us le h c go =
-    h.built c go ∙ ap (λ (qs : List Place). built_all room (places_of qs) E old.bindings l c (λ vs. go (us ++ vs))) (past ps i le)
+    h.built c go ∙ ap (λ (qs : List ResolvedPattern). built_all room (resolved_patterns_of qs) E old.bindings l c (λ vs. go (us ++ vs))) (past ps i le)
     ∙ ap go (append-nil us)

@@ -4,7 +4,7 @@ use Rattle.std.proofs.Common.{◌≡◌, ◌<◌, ◌≤◌, get_or, ℕ, ◌+�
 use Rattle.std.proofs.lemmas.List.{append_assoc}
 use Rattle.term_core.specs.Tree.{Tree}
 use Rattle.term_changes.specs.Standing.{Standing, standing_tree}
-use Rattle.strategy_syntax.specs.Resolved.{Places, ResolvedStrategy, ResolvedStrategies, call}
+use Rattle.strategy_syntax.specs.Resolved.{ResolvedPatterns, ResolvedStrategy, ResolvedStrategies, call}
 use Rattle.strategy_syntax.specs.declared.resolved.Resolved.{Resolved}
 use Rattle.strategy_meaning.specs.Scopes.{cells_in, inside, numbers_from, arguments}
 use Rattle.strategy_meaning.specs.Answer.{Answer, failed}
@@ -23,13 +23,13 @@ use Rattle.strategy_machine.proofs.TakeLemmas.{celled, some_is, none_is, take_op
 pub form_cells : (W : World) (sub : Standing) (whole : Answer) (S : State) (r : ResolvedStrategy) (n : ℕ) (p : Standing) (D : CellContents) → D ≡ S.cells → FormIn W sub whole S r n p → FormIn W sub whole (celled S D) r n p
 form_cells W sub whole S r n p D e h = subst (λ (x : CellContents). FormIn W sub whole (celled S x) r n p) (sym e) h
 
-pub undefined_is : (W : World) (S : State) (f : ℕ) (ss : ResolvedStrategies) (ps : Places) (n : ℕ) (p : Standing) (us : List Tree)
+pub undefined_is : (W : World) (S : State) (f : ℕ) (ss : ResolvedStrategies) (ps : ResolvedPatterns) (n : ℕ) (p : Standing) (us : List Tree)
     → AreBuilt W.room ps (cells_in (scope_at S.scopes n)) S.cells.bindings S.level us All → slice_get W.bodies f ≡ None
     → form W (run W) (scope_at S.scopes n) S.level (call f ss ps) S.steps S.cells.bindings (standing_tree p) ≡ failed S.steps
 undefined_is W S f ss ps n p us k e =
     k S.steps _ ∙ none_is (slice_get W.bodies f) S.steps (λ d. enter (run W) ss (scope_at S.scopes n) us d S.level S.steps S.cells.bindings (standing_tree p)) e
 
-pub entered : (W : World) (sub : Standing) (whole : Answer) (m new : Machine) (f : ℕ) (ss : ResolvedStrategies) (ps : Places) (d : Resolved) (s : Bor ResolvedStrategy) (n inner : ℕ)
+pub entered : (W : World) (sub : Standing) (whole : Answer) (m new : Machine) (f : ℕ) (ss : ResolvedStrategies) (ps : ResolvedPatterns) (d : Resolved) (s : Bor ResolvedStrategy) (n inner : ℕ)
     → AreBuilt W.room ps (cells_in (scope_at (scopes m.scopes) n)) m.cells.bindings m.level m.arguments.items All → slice_get W.bodies f ≡ Some d → s.now ≡ d.strategy
     → Enters m ss d n new inner
     → FormIn W sub whole (state_of m) (call f ss ps) n m.part → HoldsIn W sub whole (state_of new) (Begin s inner new.part)

@@ -5,10 +5,10 @@ use Rattle.term_core.specs.Tree.{Tree}
 use Rattle.term_core.specs.Size.{fits}
 use Rattle.term_paths.specs.Edits.{Edits}
 use Rattle.term_changes.specs.Standing.{Standing, fresh, standing_tree}
-use Rattle.strategy_syntax.specs.Resolved.{Place, Places, no_places, ResolvedStrategy, matches, builds, seq, guard, scope, call, ResolvedStrategies, no_strategies, resolveds_of}
+use Rattle.strategy_syntax.specs.Resolved.{ResolvedPattern, ResolvedPatterns, no_resolved_patterns, ResolvedStrategy, matches, builds, seq, guard, scope, call, ResolvedStrategies, no_strategies, resolveds_of}
 use Rattle.strategy_syntax.specs.declared.resolved.Resolved.{Resolved}
 use Rattle.strategy_meaning.specs.Scopes.{Scope, inside, no_closures, cells_in, numbers_from, with_variables}
-use Rattle.strategy_meaning.specs.Matching.{Bindings, match_place, build_place}
+use Rattle.strategy_meaning.specs.Matching.{Bindings, match_pattern, build_pattern}
 use Rattle.strategy_meaning.specs.Answer.{Stop, Answer, done, failed, stopped, spent, big, either, with_edits, at_root}
 use Rattle.strategy_meaning.specs.Meaning.{World, run, form, built, cut, enter}
 use Rattle.strategy_machine.specs.Table.{nowhere, scope_at, scope_from, IsThere}
@@ -91,7 +91,7 @@ module _ (W : World) (sub : Standing) (whole : Answer) (S : State) (s1 : Resolve
 
 -- ---- a match and a build
 
-module _ (W : World) (sub : Standing) (whole : Answer) (S : State) (q r : Place) (s2 s3 : Bor ResolvedStrategy) (n : ℕ) (p : Standing) where
+module _ (W : World) (sub : Standing) (whole : Answer) (S : State) (q r : ResolvedPattern) (s2 s3 : Bor ResolvedStrategy) (n : ℕ) (p : Standing) where
   abbrev both : ResolvedStrategy
   both = seq (matches q) (builds r)
 
@@ -102,29 +102,29 @@ module _ (W : World) (sub : Standing) (whole : Answer) (S : State) (q r : Place)
   choice_few e h = first_stops W sub whole S both s2 s3 n p spent (few W F S.level q r S.cells.bindings (standing_tree p) S.steps e) h
 
   pub choice_unmatched : (D : CellContents) (c : ℕ) → GoesBack S.cells D → S.steps ≡ c + 2
-      → match_place q (standing_tree p) (cells_in F) S.cells.bindings ≡ None
+      → match_pattern q (standing_tree p) (cells_in F) S.cells.bindings ≡ None
       → FormIn W sub whole S (guard both s2.now s3.now) n p → HoldsIn W sub whole (celled (paid S c) D) (Begin s3 n p)
   choice_unmatched D c g e m h = first_fails W sub whole S both s2 s3 n p D c g (unmatched W F S.level q r S.cells.bindings (standing_tree p) S.steps c e m) h
 
   -- the match succeeded with these bindings
-  module _ (C : Bindings) (m : match_place q (standing_tree p) (cells_in F) S.cells.bindings ≡ Some C) where
+  module _ (C : Bindings) (m : match_pattern q (standing_tree p) (cells_in F) S.cells.bindings ≡ Some C) where
     pub choice_matched_few : S.steps ≡ 2 → FormIn W sub whole S (guard both s2.now s3.now) n p → whole ≡ stopped spent
     choice_matched_few e h = first_stops W sub whole S both s2 s3 n p spent (matched_few W F S.level q r S.cells.bindings (standing_tree p) S.steps 0 C e m refl) h
 
-    comes : (c : ℕ) → S.steps ≡ c + 3 → first W sub whole S both s2 s3 n p ≡ built W.room (build_place r (cells_in F) C) S.level c (λ u. done u C c (at_root u))
+    comes : (c : ℕ) → S.steps ≡ c + 3 → first W sub whole S both s2 s3 n p ≡ built W.room (build_pattern r (cells_in F) C) S.level c (λ u. done u C c (at_root u))
     comes c e = builds_one W F S.level q r S.cells.bindings (standing_tree p) S.steps c C e m
 
-    pub choice_unbuilt : (D : CellContents) (c : ℕ) → GoesBack S.cells D → S.steps ≡ c + 3 → build_place r (cells_in F) C ≡ None
+    pub choice_unbuilt : (D : CellContents) (c : ℕ) → GoesBack S.cells D → S.steps ≡ c + 3 → build_pattern r (cells_in F) C ≡ None
         → FormIn W sub whole S (guard both s2.now s3.now) n p → HoldsIn W sub whole (celled (paid S c) D) (Begin s3 n p)
     choice_unbuilt D c g e o h = first_fails W sub whole S both s2 s3 n p D c g (comes c e ∙ unbuilt_is W.room S.level c _ (λ u. done u C c (at_root u)) o) h
 
-    pub choice_big : (c : ℕ) (u : Tree) → S.steps ≡ c + 3 → build_place r (cells_in F) C ≡ Some u → fits W.room S.level u ≡ false
+    pub choice_big : (c : ℕ) (u : Tree) → S.steps ≡ c + 3 → build_pattern r (cells_in F) C ≡ Some u → fits W.room S.level u ≡ false
         → FormIn W sub whole S (guard both s2.now s3.now) n p → whole ≡ stopped big
     choice_big c u e o f h = first_stops W sub whole S both s2 s3 n p big (comes c e ∙ big_is W.room S.level c u _ (λ v. done v C c (at_root v)) o f) h
 
   pub choice_built : (D : CellContents) (c : ℕ) (u : Tree) (v : Standing) (trail : Trail) → Before (mark_of S.cells) (mark_of D) → Stays (mark_of S.cells) S.cells D
-      → S.steps ≡ c + 3 → match_place q (standing_tree p) (cells_in F) S.cells.bindings ≡ Some D.bindings
-      → build_place r (cells_in F) D.bindings ≡ Some u → fits W.room S.level u ≡ true → v ≡ fresh u
+      → S.steps ≡ c + 3 → match_pattern q (standing_tree p) (cells_in F) S.cells.bindings ≡ Some D.bindings
+      → build_pattern r (cells_in F) D.bindings ≡ Some u → fits W.room S.level u ≡ true → v ≡ fresh u
       → ((T : Edits) → Shows S.trail T → Shows trail (T ++ record { path = path_of S.frames; new = u } ∷ []))
       → FormIn W sub whole S (guard both s2.now s3.now) n p
       → HoldsIn W sub whole (record { cells = D; scopes = S.scopes; trail = trail; level = S.level; frames = S.frames; steps = c }) (Begin s2 n v)
@@ -133,7 +133,7 @@ module _ (W : World) (sub : Standing) (whole : Answer) (S : State) (q r : Place)
 
 -- ---- a rule
 
-module _ (W : World) (F : Scope) (l k : ℕ) (q r : Place) (s : ResolvedStrategy) (is : s ≡ scope k (seq (matches q) (builds r))) (B : Bindings) (t : Tree) where
+module _ (W : World) (F : Scope) (l k : ℕ) (q r : ResolvedPattern) (s : ResolvedStrategy) (is : s ≡ scope k (seq (matches q) (builds r))) (B : Bindings) (t : Tree) where
   abbrev inside_is : ℕ → Answer
   inside_is c = cut (length B) (run W (with_variables F (length B) k) l (seq (matches q) (builds r)) c (B ++ replicate k None) t)
 
@@ -155,8 +155,8 @@ rule_here ds es s n r e = record {
 }
 
 -- the body of a definition without variables, called without arguments
-body_is : (W : World) (E : Scope) (l f : ℕ) (ss : ResolvedStrategies) (ps : Places) (d : Resolved) (c : ℕ) (B : Bindings) (t : Tree)
-    → ss ≡ no_strategies → ps ≡ no_places → slice_get W.bodies f ≡ Some d → d.variables ≡ 0 → form W (run W) E l (call f ss ps) c B t ≡ run W nowhere l d.strategy c B t
+body_is : (W : World) (E : Scope) (l f : ℕ) (ss : ResolvedStrategies) (ps : ResolvedPatterns) (d : Resolved) (c : ℕ) (B : Bindings) (t : Tree)
+    → ss ≡ no_strategies → ps ≡ no_resolved_patterns → slice_get W.bodies f ≡ Some d → d.variables ≡ 0 → form W (run W) E l (call f ss ps) c B t ≡ run W nowhere l d.strategy c B t
 body_is W E l f ss ps d c B t none empty there v =
     (λ i. form W (run W) E l (call f (none i) (empty i)) c B t)
     ∙ some_is (slice_get W.bodies f) d c (λ x. enter (run W) no_strategies E us x l c B t) there
@@ -171,8 +171,8 @@ pub no_arguments : (ss : List ResolvedStrategy) → length ss ≡ 0 → resolved
 no_arguments [] e = refl
 no_arguments (s ∷ ss) e = absurd (omega (arith, e))
 
-pub rule_called : (ds : List Resolved) (es : List Scope) (s : ResolvedStrategy) (n f : ℕ) (ss : ResolvedStrategies) (ps : Places) (d : Resolved) (r : Rule)
-    → s ≡ call f ss ps → ss ≡ no_strategies → ps ≡ no_places → slice_get ds f ≡ Some d → d.variables ≡ 0
+pub rule_called : (ds : List Resolved) (es : List Scope) (s : ResolvedStrategy) (n f : ℕ) (ss : ResolvedStrategies) (ps : ResolvedPatterns) (d : Resolved) (r : Rule)
+    → s ≡ call f ss ps → ss ≡ no_strategies → ps ≡ no_resolved_patterns → slice_get ds f ≡ Some d → d.variables ≡ 0
     → (d.strategy ≡ scope r.count (seq (matches r.left.now) (builds r.right.now))) × (r.outer ≡ None) × (r.price ≡ 4) → IsRule ds es s n r
 rule_called ds es s n f ss ps d r is none empty there v e = record {
   there = λ lt. subst (IsThere (length es)) (sym e.1) tt;
@@ -213,29 +213,29 @@ module _ (W : World) (sub : Standing) (whole : Answer) (S : State) (s1 : Resolve
   pub or_few : S.steps < r.price → FormIn W sub whole S here n p → whole ≡ stopped spent
   or_few e h = first_stops W sub whole S s1 s2 s3 n p spent (k.spent W refl S.level S.steps S.cells.bindings (standing_tree p) e) h
 
-  pub or_unmatched : (D : CellContents) (c : ℕ) → GoesBack S.cells D → S.steps ≡ c + r.price → match_place r.left.now (standing_tree p) (cells_in inner) wide ≡ None
+  pub or_unmatched : (D : CellContents) (c : ℕ) → GoesBack S.cells D → S.steps ≡ c + r.price → match_pattern r.left.now (standing_tree p) (cells_in inner) wide ≡ None
       → FormIn W sub whole S here n p → HoldsIn W sub whole (celled (paid S c) D) (Begin s3 n p)
   or_unmatched D c g e m h = first_fails W sub whole S s1 s2 s3 n p D c g (along (c + 2) (failed c) (omega (arith, e)) (unmatched W inner S.level r.left.now r.right.now wide (standing_tree p) (c + 2) c refl m)) h
 
   -- the match succeeded with these bindings
-  module _ (C : Bindings) (m : match_place r.left.now (standing_tree p) (cells_in inner) wide ≡ Some C) where
+  module _ (C : Bindings) (m : match_pattern r.left.now (standing_tree p) (cells_in inner) wide ≡ Some C) where
     pub or_matched_few : S.steps ≡ r.price → FormIn W sub whole S here n p → whole ≡ stopped spent
     or_matched_few e h = first_stops W sub whole S s1 s2 s3 n p spent (along 2 (stopped spent) (omega (arith, e)) (matched_few W inner S.level r.left.now r.right.now wide (standing_tree p) 2 0 C refl m refl)) h
 
-    builds_it : (c : ℕ) → S.steps ≡ c + 1 + r.price → first W sub whole S s1 s2 s3 n p ≡ cuts (built W.room (build_place r.right.now (cells_in inner) C) S.level c (λ u. done u C c (at_root u)))
-    builds_it c e = along (c + 3) (built W.room (build_place r.right.now (cells_in inner) C) S.level c (λ u. done u C c (at_root u))) (omega (arith, e)) (builds_one W inner S.level r.left.now r.right.now wide (standing_tree p) (c + 3) c C refl m)
+    builds_it : (c : ℕ) → S.steps ≡ c + 1 + r.price → first W sub whole S s1 s2 s3 n p ≡ cuts (built W.room (build_pattern r.right.now (cells_in inner) C) S.level c (λ u. done u C c (at_root u)))
+    builds_it c e = along (c + 3) (built W.room (build_pattern r.right.now (cells_in inner) C) S.level c (λ u. done u C c (at_root u))) (omega (arith, e)) (builds_one W inner S.level r.left.now r.right.now wide (standing_tree p) (c + 3) c C refl m)
 
-    pub or_unbuilt : (D : CellContents) (c : ℕ) → GoesBack S.cells D → S.steps ≡ c + 1 + r.price → build_place r.right.now (cells_in inner) C ≡ None
+    pub or_unbuilt : (D : CellContents) (c : ℕ) → GoesBack S.cells D → S.steps ≡ c + 1 + r.price → build_pattern r.right.now (cells_in inner) C ≡ None
         → FormIn W sub whole S here n p → HoldsIn W sub whole (celled (paid S c) D) (Begin s3 n p)
     or_unbuilt D c g e o h = first_fails W sub whole S s1 s2 s3 n p D c g (builds_it c e ∙ ap cuts (unbuilt_is W.room S.level c _ (λ u. done u C c (at_root u)) o)) h
 
-    pub or_big : (c : ℕ) (u : Tree) → S.steps ≡ c + 1 + r.price → build_place r.right.now (cells_in inner) C ≡ Some u → fits W.room S.level u ≡ false
+    pub or_big : (c : ℕ) (u : Tree) → S.steps ≡ c + 1 + r.price → build_pattern r.right.now (cells_in inner) C ≡ Some u → fits W.room S.level u ≡ false
         → FormIn W sub whole S here n p → whole ≡ stopped big
     or_big c u e o f h = first_stops W sub whole S s1 s2 s3 n p big (builds_it c e ∙ ap cuts (big_is W.room S.level c u _ (λ v. done v C c (at_root v)) o f)) h
 
     pub or_built : (D : CellContents) (c : ℕ) (u : Tree) (v : Standing) (trail : Trail) → Before (mark_of S.cells) (mark_of D) → Stays (mark_of S.cells) S.cells D
         → D.bindings ≡ take (length S.cells.bindings) C → S.steps ≡ c + 1 + r.price
-        → build_place r.right.now (cells_in inner) C ≡ Some u → fits W.room S.level u ≡ true → v ≡ fresh u
+        → build_pattern r.right.now (cells_in inner) C ≡ Some u → fits W.room S.level u ≡ true → v ≡ fresh u
         → ((T : Edits) → Shows S.trail T → Shows trail (T ++ record { path = path_of S.frames; new = u } ∷ []))
         → FormIn W sub whole S here n p
         → HoldsIn W sub whole (record { cells = D; scopes = S.scopes; trail = trail; level = S.level; frames = S.frames; steps = c }) (Begin s2 n v)

@@ -3,7 +3,7 @@ use Rattle.std.proofs.Common.{◌≡◌, ℕ, ◌+◌, List, [], ◌∷◌, ◌+
 use Rattle.std.specs.declared.option.Option.{Option}
 use Rattle.term_core.specs.Tree.{Head, Tree}
 use Rattle.term_changes.specs.Standing.{Standing, standing_tree}
-use Rattle.strategy_syntax.specs.Resolved.{Place, no_places, ResolvedStrategy, fail, matches, seq, guard, test, scope, param, call, congruence, tail_congruence, ResolvedStrategies, resolved_list, resolveds_of, places_of}
+use Rattle.strategy_syntax.specs.Resolved.{ResolvedPattern, no_resolved_patterns, ResolvedStrategy, fail, matches, seq, guard, test, scope, param, call, congruence, tail_congruence, ResolvedStrategies, resolved_list, resolveds_of, resolved_patterns_of}
 use Rattle.strategy_syntax.proofs.ResolvedLemmas.{resolved_list-resolveds_of}
 use Rattle.strategy_syntax.specs.declared.resolved.Resolved.{Resolved}
 use Rattle.strategy_meaning.specs.Scopes.{Scope, inside, Closure, cells_in, stands_for, with_variables, arguments, numbers_from}
@@ -30,7 +30,7 @@ module _ (ds : List Resolved) (known : List Scope) (n : Option ℕ) (t : Tree) w
   pub fails_fail : (b c : ℕ) → b ≡ c + 1 → FailsAhead ds known n fail b t c
   fails_fail b c e = ahead fail b c c e (λ W i E k l B. refl)
 
-  pub fails_match : (p : Place) (b c : ℕ) → b ≡ c + 1 → Misses p t → FailsAhead ds known n (matches p) b t c
+  pub fails_match : (p : ResolvedPattern) (b c : ℕ) → b ≡ c + 1 → Misses p t → FailsAhead ds known n (matches p) b t c
   fails_match p b c e m = ahead (matches p) b c c e (λ W i E k l B. ap (λ (o : Option Bindings). with_some o c (λ B1. done t B1 c [])) (m.never (cells_in E) B))
 
   pub fails_seq : (s1 s2 : ResolvedStrategy) (b c d : ℕ) → b ≡ c + 1 → FailsAhead ds known n s1 c t d → FailsAhead ds known n (seq s1 s2) b t d
@@ -61,8 +61,8 @@ module _ (ds : List Resolved) (known : List Scope) (n : Option ℕ) (t : Tree) w
       ap (cut (length B)) (h.fails W i (with_variables E (length B) x) (names_inside n E (length B) x k) l (B ++ replicate x None)))
 
   pub fails_call : (f : ℕ) (ss : ResolvedStrategies) (r : Resolved) (b c d : ℕ) → b ≡ c + 1 → slice_get ds f ≡ Some r → FailsAhead ds known None r.strategy c t d
-      → FailsAhead ds known n (call f ss no_places) b t d
-  fails_call f ss r b c d e is h = ahead (call f ss no_places) b c d e (λ W i E k l B.
+      → FailsAhead ds known n (call f ss no_resolved_patterns) b t d
+  fails_call f ss r b c d e is h = ahead (call f ss no_resolved_patterns) b c d e (λ W i E k l B.
       ap (λ (o : Option Resolved). with_some o c (λ x. enter (run W) ss E [] x l c B t)) (ap (λ (xs : List Resolved). slice_get xs f) i ∙ is)
       ∙ ap (cut (length B)) (h.fails W i (inside (numbers_from (length B) (length us + r.variables)) (arguments E ss)) tt l (B ++ (map Some us ++ replicate r.variables None))))
     where
@@ -76,7 +76,7 @@ fails_param ds known n x t k b c d e is h = ahead ds known (Some n) t (param x) 
     ap (λ (o : Option Closure). with_some o c (λ z. run W z.written_in l z.strategy c B t)) (names x ∙ is)
     ∙ h.fails W i (scope_at known k.written_in) (λ y. refl) l B)
 
-pub rule_fails : (ds : List Resolved) (known : List Scope) (n : Option ℕ) (t : Tree) (x : ℕ) (p : Place) (then : ResolvedStrategy) (b c : ℕ) → b ≡ c + 3 → Misses p t
+pub rule_fails : (ds : List Resolved) (known : List Scope) (n : Option ℕ) (t : Tree) (x : ℕ) (p : ResolvedPattern) (then : ResolvedStrategy) (b c : ℕ) → b ≡ c + 3 → Misses p t
     → FailsAhead ds known n (scope x (seq (matches p) then)) b t c
 rule_fails ds known n t x p then b c e m =
     fails_scope ds known n t x (seq (matches p) then) b (c + 2) c (omega (arith, e))
@@ -109,7 +109,7 @@ pub passes_more : (s r q : ResolvedStrategy) (b c d : ℕ) (t : Tree) → Passes
 passes_more s r q b c d t h g = record { same = λ W E l B. h.same W E l B ∙ g.same W E l B }
 
 -- a rule for another root, with the choice around it
-pub passes_rule : (s s2 s3 then : ResolvedStrategy) (n : ℕ) (p : Place) (b c : ℕ) (t : Tree) → s ≡ scope n (seq (matches p) then) → b ≡ c + 4 → Misses p t
+pub passes_rule : (s s2 s3 then : ResolvedStrategy) (n : ℕ) (p : ResolvedPattern) (b c : ℕ) (t : Tree) → s ≡ scope n (seq (matches p) then) → b ≡ c + 4 → Misses p t
     → Passes (guard s s2 s3) b t s3 c
 passes_rule s s2 s3 then n p b c t is e m = record {
   same = λ W E l B.
@@ -144,6 +144,6 @@ not_over_many h ss t e = ap (λ (l : List ResolvedStrategy). is_over h (length l
 pub not_list_many : (ss : List ResolvedStrategy) (t : Tree) → is_list_from (length ss) (elements t) ≡ false → is_list_from (length (resolved_list (resolveds_of ss))) (elements t) ≡ false
 not_list_many ss t e = ap (λ (l : List ResolvedStrategy). is_list_from (length l) (elements t)) (resolved_list-resolveds_of ss) ∙ e
 
-pub no_patterns : (ps : List Place) → length ps ≡ 0 → places_of ps ≡ no_places
+pub no_patterns : (ps : List ResolvedPattern) → length ps ≡ 0 → resolved_patterns_of ps ≡ no_resolved_patterns
 no_patterns [] e = refl
 no_patterns (p ∷ ps) e = absurd (omega (arith, e))

@@ -6,9 +6,9 @@ use Rattle.std.proofs.lemmas.List.{length-take-le, length-append, length-set, ta
 use Rattle.term_core.specs.Tree.{Tree, children, annotations, bare}
 use Rattle.term_core.specs.Size.{fits}
 use Rattle.term_paths.specs.Edits.{Edits}
-use Rattle.strategy_syntax.specs.Resolved.{Place, wildcard, variable, at, number, compound, with_tail, annotated, Places, no_places, and_place, place_list, ResolvedStrategy, id, fail, matches, builds, seq, guard, test, scope, param, call, congruence, tail_congruence, all, one, some, child, rec, prim, resolved_list}
+use Rattle.strategy_syntax.specs.Resolved.{ResolvedPattern, wildcard, variable, at, number, compound, with_tail, annotated, ResolvedPatterns, no_resolved_patterns, and_resolved_pattern, resolved_pattern_list, ResolvedStrategy, id, fail, matches, builds, seq, guard, test, scope, param, call, congruence, tail_congruence, all, one, some, child, rec, prim, resolved_list}
 use Rattle.strategy_meaning.specs.Same.{same_tree}
-use Rattle.strategy_meaning.specs.Matching.{Bindings, match_place, match_places, bind, put_or_same, build_place, elements, is_integer, is_headed}
+use Rattle.strategy_meaning.specs.Matching.{Bindings, match_pattern, match_patterns, bind, put_or_same, build_pattern, elements, is_integer, is_headed}
 use Rattle.strategy_meaning.specs.Scopes.{Scope, cells_in, stands_for, with_variables, with_name}
 use Rattle.strategy_meaning.specs.Answer.{Answer, done, failed, stopped, big, Act, either, with_edits, and_then}
 use Rattle.strategy_machine.specs.inside.Endings.{HasCells as Has}
@@ -45,7 +45,7 @@ bind-holds E x t B n e =
     (and_then-holds (length B) (slice_get E x) (λ i. put_or_same B i t (slice_get B i)) (λ i. put-holds B i t (slice_get B i)))
 
 mutual
-  match-holds : (p : Place) (t : Tree) (E : List ℕ) (B : Bindings) (n : ℕ) → length B ≡ n → Holds n (match_place p t E B)
+  match-holds : (p : ResolvedPattern) (t : Tree) (E : List ℕ) (B : Bindings) (n : ℕ) → length B ≡ n → Holds n (match_pattern p t E B)
   match-holds wildcard t E B n e = e
   match-holds (variable x) t E B n e = bind-holds E x t B n e
   match-holds (at x p) t E B n e =
@@ -53,17 +53,17 @@ mutual
   match-holds (number z) t E B n e = if-holds n (is_integer z t) (Some B) e
   match-holds (compound h ps) t E B n e = if-holds n (is_headed h t) _ (matches-hold ps (children t) E B n e)
   match-holds (with_tail ps p) t E B n e =
-      and_then-holds n (elements t) _ (λ us. then-holds n (match_places ps (take (length (place_list ps)) us) E B) _
-      (matches-hold ps (take (length (place_list ps)) us) E B n e) (λ C f. match-holds p _ E C n f))
+      and_then-holds n (elements t) _ (λ us. then-holds n (match_patterns ps (take (length (resolved_pattern_list ps)) us) E B) _
+      (matches-hold ps (take (length (resolved_pattern_list ps)) us) E B n e) (λ C f. match-holds p _ E C n f))
   match-holds (annotated p ps) t E B n e =
-      then-holds n (match_place p (bare t) E B) _ (match-holds p (bare t) E B n e) (λ C f. matches-hold ps (annotations t) E C n f)
+      then-holds n (match_pattern p (bare t) E B) _ (match-holds p (bare t) E B n e) (λ C f. matches-hold ps (annotations t) E C n f)
 
-  matches-hold : (ps : Places) (ts : List Tree) (E : List ℕ) (B : Bindings) (n : ℕ) → length B ≡ n → Holds n (match_places ps ts E B)
-  matches-hold no_places [] E B n e = e
-  matches-hold no_places (t ∷ ts) E B n e = tt
-  matches-hold (and_place p ps) [] E B n e = tt
-  matches-hold (and_place p ps) (t ∷ ts) E B n e =
-      then-holds n (match_place p t E B) _ (match-holds p t E B n e) (λ C f. matches-hold ps ts E C n f)
+  matches-hold : (ps : ResolvedPatterns) (ts : List Tree) (E : List ℕ) (B : Bindings) (n : ℕ) → length B ≡ n → Holds n (match_patterns ps ts E B)
+  matches-hold no_resolved_patterns [] E B n e = e
+  matches-hold no_resolved_patterns (t ∷ ts) E B n e = tt
+  matches-hold (and_resolved_pattern p ps) [] E B n e = tt
+  matches-hold (and_resolved_pattern p ps) (t ∷ ts) E B n e =
+      then-holds n (match_pattern p t E B) _ (match-holds p t E B n e) (λ C f. matches-hold ps ts E C n f)
 
 -- ---- answers
 
@@ -130,10 +130,10 @@ built-has room n l o c go h = some-has n o c _ (λ u. by u (fits room l u)) wher
   by u true = h u
   by u false = tt
 
-built_all-has : (room n l : ℕ) (ps : Places) (E : List ℕ) (B : Bindings) (c : ℕ) (go : List Tree → Answer) → ((us : List Tree) → Has n (go us)) → Has n (built_all room ps E B l c go)
-built_all-has room n l no_places E B c go h = h []
-built_all-has room n l (and_place p ps) E B c go h =
-    built-has room n l (build_place p E B) c _ (λ u. built_all-has room n l ps E B c _ (λ us. h (u ∷ us)))
+built_all-has : (room n l : ℕ) (ps : ResolvedPatterns) (E : List ℕ) (B : Bindings) (c : ℕ) (go : List Tree → Answer) → ((us : List Tree) → Has n (go us)) → Has n (built_all room ps E B l c go)
+built_all-has room n l no_resolved_patterns E B c go h = h []
+built_all-has room n l (and_resolved_pattern p ps) E B c go h =
+    built-has room n l (build_pattern p E B) c _ (λ u. built_all-has room n l ps E B c _ (λ us. h (u ∷ us)))
 
 -- exactly the opened cells are gone
 cut-has : (B new : Bindings) (a : Answer) → Has (length (B ++ new)) a → Has (length B) (cut (length B) a)
@@ -149,11 +149,11 @@ opened-has part E new l x h n c B t e =
 form-has : (W : World) (part : Evaluation) → PartHas part → PartHas (form W part)
 form-has W part h E l id n c B t e = e
 form-has W part h E l fail n c B t e = tt
-form-has W part h E l (matches p) n c B t e = matched (match_place p t (cells_in E) B) (match-holds p t (cells_in E) B n e) where
+form-has W part h E l (matches p) n c B t e = matched (match_pattern p t (cells_in E) B) (match-holds p t (cells_in E) B n e) where
   matched : (o : Option Bindings) → Holds n o → Has n (with_some o c (λ B1. done t B1 c []))
   matched None k = tt
   matched (Some C) k = k
-form-has W part h E l (builds p) n c B t e = built-has W.room n l (build_place p (cells_in E) B) c _ (λ u. e)
+form-has W part h E l (builds p) n c B t e = built-has W.room n l (build_pattern p (cells_in E) B) c _ (λ u. e)
 form-has W part h E l (seq s1 s2) n c B t e = and_then-has n _ _ (h E l s1 n c B t e) (h E l s2)
 form-has W part h E l (guard s1 s2 s3) n c B t e =
     either-has n (part E l s1 c B t) _ _ (h E l s1 n c B t e) (λ u B1 b d r. edits-has n d _ (h E l s2 n b B1 u r)) (λ b. h E l s3 n b B t e)

@@ -5,7 +5,7 @@ use Rattle.std.proofs.lemmas.List.{append-nil}
 use Rattle.std.specs.declared.option.Option.{Option}
 use Rattle.term_core.specs.Tree.{Tree}
 use Rattle.term_changes.specs.Standing.{Standing, standing_tree}
-use Rattle.strategy_syntax.specs.Resolved.{Places, no_places, ResolvedStrategy, ResolvedStrategies, param, call}
+use Rattle.strategy_syntax.specs.Resolved.{ResolvedPatterns, no_resolved_patterns, ResolvedStrategy, ResolvedStrategies, param, call}
 use Rattle.strategy_syntax.specs.declared.resolved.Resolved.{Resolved}
 use Rattle.strategy_meaning.specs.Scopes.{Scope, inside, stands_for, numbers_from, arguments}
 use Rattle.strategy_meaning.specs.Matching.{Bindings}
@@ -42,15 +42,15 @@ name_runs W es x n known k = record {
   is = λ l c B t. some_is (stands_for (scope_at es n) x) (closure_of es known) c (λ z. run W z.written_in l z.strategy c B t) k.1;
 }
 
-pub body_runs : (W : World) (es : List Scope) (f : ℕ) (ss : ResolvedStrategies) (ps : Places) (d : Resolved) (n k : ℕ)
-    → ps ≡ no_places → slice_get W.bodies f ≡ Some d → d.variables ≡ 0 → k < length es
+pub body_runs : (W : World) (es : List Scope) (f : ℕ) (ss : ResolvedStrategies) (ps : ResolvedPatterns) (d : Resolved) (n k : ℕ)
+    → ps ≡ no_resolved_patterns → slice_get W.bodies f ≡ Some d → d.variables ≡ 0 → k < length es
     → scope_at es k ≡ inside [] (arguments (scope_at es n) ss) → Runs W es (call f ss ps) n d.strategy k
 body_runs W es f ss ps d n k none there v lt is = record {
   there = lt;
   is = λ l c B t.
       let E = arguments (scope_at es n) ss in
       let us : List Tree = [] in
-      ap (λ (qs : Places). form W (run W) (scope_at es n) l (call f ss qs) c B t) none
+      ap (λ (qs : ResolvedPatterns). form W (run W) (scope_at es n) l (call f ss qs) c B t) none
       ∙ some_is (slice_get W.bodies f) d c (λ x. enter (run W) ss (scope_at es n) us x l c B t) there
       ∙ ap (λ (j : ℕ). cut (length B) (run W (inside (numbers_from (length B) (length us + j)) E) l d.strategy c (B ++ (map Some us ++ replicate j None)) t)) v
       ∙ ap (λ (C : Bindings). cut (length B) (run W (inside [] E) l d.strategy c C t)) (append-nil B)

@@ -6,10 +6,10 @@ use Rattle.term_core.specs.Tree.{Head, Tree, children}
 use Rattle.term_core.specs.Size.{fits}
 use Rattle.term_paths.specs.Edits.{Edits}
 use Rattle.term_changes.specs.Standing.{Standing, fresh, standing_tree}
-use Rattle.strategy_syntax.specs.Resolved.{Place, ResolvedStrategy, matches, seq, guard, test, param, congruence, tail_congruence, all, one, some, child, rec, resolved_list, resolveds_of}
+use Rattle.strategy_syntax.specs.Resolved.{ResolvedPattern, ResolvedStrategy, matches, seq, guard, test, param, congruence, tail_congruence, all, one, some, child, rec, resolved_list, resolveds_of}
 use Rattle.strategy_syntax.proofs.ResolvedLemmas.{resolved_list-resolveds_of}
 use Rattle.strategy_meaning.specs.Scopes.{Scope, cells_in, stands_for, with_name}
-use Rattle.strategy_meaning.specs.Matching.{Bindings, match_place, elements}
+use Rattle.strategy_meaning.specs.Matching.{Bindings, match_pattern, elements}
 use Rattle.strategy_meaning.specs.Answer.{Stop, Answer, Act, done, failed, stopped, spent, big, either, with_edits, and_then, at_root}
 use Rattle.strategy_meaning.specs.Meaning.{World, run, form, with_some, built, each, leftmost, those_done, on_rest, is_over, is_list_from, on_child, cut, opened}
 use Rattle.strategy_meaning.proofs.StepLemmas.{one_step_is_one_form}
@@ -90,9 +90,9 @@ pub with_cells : (W : World) (sub : Standing) (whole : Answer) (S : State) {hand
 with_cells W sub whole S {hand = hand} D e h = subst (λ (x : CellContents). HoldsIn W sub whole (celled S x) hand) (sym e) h
 
 -- the pattern matches, or it doesn't
-pub take_matched : (W : World) (sub : Standing) (whole : Answer) (S : State) (q : Place) (n : ℕ) (p : Standing) (D : CellContents)
+pub take_matched : (W : World) (sub : Standing) (whole : Answer) (S : State) (q : ResolvedPattern) (n : ℕ) (p : Standing) (D : CellContents)
     → Before (mark_of S.cells) (mark_of D) → Stays (mark_of S.cells) S.cells D
-    → match_place q (standing_tree p) (cells_in (scope_at S.scopes n)) S.cells.bindings ≡ Some D.bindings
+    → match_pattern q (standing_tree p) (cells_in (scope_at S.scopes n)) S.cells.bindings ≡ Some D.bindings
     → FormIn W sub whole S (matches q) n p → HoldsIn W sub whole (celled S D) (Done p)
 take_matched W sub whole S q n p D b st e h = record {
   now = p;
@@ -103,9 +103,9 @@ take_matched W sub whole S q n p D b st e h = record {
       (opens_kept W sub whole S.cells D (mark_of S.cells) (mark_of D) S.scopes S.level S.frames (path_of S.frames) p h.edits _ b st h.opens);
 }
 
-pub take_unmatched : (W : World) (sub : Standing) (whole : Answer) (S : State) (q : Place) (n : ℕ) (p : Standing) (D : CellContents)
+pub take_unmatched : (W : World) (sub : Standing) (whole : Answer) (S : State) (q : ResolvedPattern) (n : ℕ) (p : Standing) (D : CellContents)
     → Before (mark_of S.cells) (mark_of D) → Stays (mark_of S.cells) S.cells D
-    → match_place q (standing_tree p) (cells_in (scope_at S.scopes n)) S.cells.bindings ≡ None
+    → match_pattern q (standing_tree p) (cells_in (scope_at S.scopes n)) S.cells.bindings ≡ None
     → FormIn W sub whole S (matches q) n p → HoldsIn W sub whole (celled S D) Failed
 take_unmatched W sub whole S q n p D b st e h = record {
   now = p;
@@ -171,18 +171,18 @@ take_then W sub whole S s1 s2 n p h = record {
 }
 
 -- a match, whose step is charged with that of the sequence, followed by a strategy
-match_spent : (W : World) (E : Scope) (l : ℕ) (q : Place) (s : ResolvedStrategy) (b : ℕ) (B : Bindings) (t : Tree) → b ≡ 0
+match_spent : (W : World) (E : Scope) (l : ℕ) (q : ResolvedPattern) (s : ResolvedStrategy) (b : ℕ) (B : Bindings) (t : Tree) → b ≡ 0
     → form W (run W) E l (seq (matches q) s) b B t ≡ stopped spent
 match_spent W E l q s b B t e = ap (λ (a : Answer). and_then a (run W E l s)) (no_steps W E l (matches q) b B t e)
 
-pub take_match_spent : (W : World) (sub : Standing) (whole : Answer) (S : State) (q : Place) (s : ResolvedStrategy) (n : ℕ) (p : Standing)
+pub take_match_spent : (W : World) (sub : Standing) (whole : Answer) (S : State) (q : ResolvedPattern) (s : ResolvedStrategy) (n : ℕ) (p : Standing)
     → S.steps ≡ 0 → FormIn W sub whole S (seq (matches q) s) n p → whole ≡ stopped spent
 take_match_spent W sub whole S q s n p e h =
     take_stops W sub whole S (seq (matches q) s) n p spent (match_spent W (scope_at S.scopes n) S.level q s S.steps S.cells.bindings (standing_tree p) e) h
 
-pub take_matched_first : (W : World) (sub : Standing) (whole : Answer) (S : State) (q : Place) (s : Bor ResolvedStrategy) (n : ℕ) (p : Standing) (D : CellContents) (c : ℕ)
+pub take_matched_first : (W : World) (sub : Standing) (whole : Answer) (S : State) (q : ResolvedPattern) (s : Bor ResolvedStrategy) (n : ℕ) (p : Standing) (D : CellContents) (c : ℕ)
     → S.steps ≡ c + 1 → Before (mark_of S.cells) (mark_of D) → Stays (mark_of S.cells) S.cells D
-    → match_place q (standing_tree p) (cells_in (scope_at S.scopes n)) S.cells.bindings ≡ Some D.bindings
+    → match_pattern q (standing_tree p) (cells_in (scope_at S.scopes n)) S.cells.bindings ≡ Some D.bindings
     → FormIn W sub whole S (seq (matches q) s.now) n p → HoldsIn W sub whole (celled (paid S c) D) (Begin s n p)
 take_matched_first W sub whole S q s n p D c e b st m h =
     let E = scope_at S.scopes n in
@@ -197,9 +197,9 @@ take_matched_first W sub whole S q s n p D c e b st m h =
           (opens_kept W sub whole S.cells D (mark_of S.cells) (mark_of D) S.scopes S.level S.frames (path_of S.frames) p h.edits _ b st h.opens);
     }
 
-pub take_unmatched_first : (W : World) (sub : Standing) (whole : Answer) (S : State) (q : Place) (s : ResolvedStrategy) (n : ℕ) (p : Standing) (D : CellContents) (c : ℕ)
+pub take_unmatched_first : (W : World) (sub : Standing) (whole : Answer) (S : State) (q : ResolvedPattern) (s : ResolvedStrategy) (n : ℕ) (p : Standing) (D : CellContents) (c : ℕ)
     → S.steps ≡ c + 1 → Before (mark_of S.cells) (mark_of D) → Stays (mark_of S.cells) S.cells D
-    → match_place q (standing_tree p) (cells_in (scope_at S.scopes n)) S.cells.bindings ≡ None
+    → match_pattern q (standing_tree p) (cells_in (scope_at S.scopes n)) S.cells.bindings ≡ None
     → FormIn W sub whole S (seq (matches q) s) n p → HoldsIn W sub whole (celled (paid S c) D) Failed
 take_unmatched_first W sub whole S q s n p D c e b st m h =
     let E = scope_at S.scopes n in

@@ -3,7 +3,7 @@ use Rattle.std.proofs.Common.{◌≡◌, ◌≤◌, ℕ, ◌+◌, zero, suc, Lis
 use Rattle.std.proofs.lemmas.List.{append-nil}
 use Rattle.term_core.specs.Tree.{Tree}
 use Rattle.term_changes.specs.Standing.{Standing, standing_tree}
-use Rattle.strategy_syntax.specs.Resolved.{Place, Places, places_of, ResolvedStrategy, id, guard, param, call, ResolvedStrategies, no_strategies, and_strategy, resolveds_of}
+use Rattle.strategy_syntax.specs.Resolved.{ResolvedPattern, ResolvedPatterns, resolved_patterns_of, ResolvedStrategy, id, guard, param, call, ResolvedStrategies, no_strategies, and_strategy, resolveds_of}
 use Rattle.strategy_syntax.specs.declared.resolved.Resolved.{Resolved}
 use Rattle.strategy_meaning.specs.Scopes.{Scope, inside, no_closures, and_closure, cells_in, argument, arguments, numbers_from}
 use Rattle.strategy_meaning.specs.Matching.{Bindings}
@@ -55,10 +55,10 @@ module _ (W : World) (E : Scope) (l : ℕ) (B : Bindings) (u : Tree) where
       after : ℕ → ResolvedStrategy → ResolvedStrategies → Answer
       after n r rs = cut (length B) (run W (inside (numbers_from (length B) (length none + n)) (arguments E rs)) l r b (B ++ (map Some none ++ replicate n None)) u)
 
-  tries : (f : ℕ) (ss : List ResolvedStrategy) (ps : List Place) (t : Try) (b : ℕ) → IsTry W.bodies f ss ps t
-      → form W (run W) E l (call f (resolveds_of ss) (places_of ps)) b B u ≡ run W (body_scope t.first.now) l body b B u
+  tries : (f : ℕ) (ss : List ResolvedStrategy) (ps : List ResolvedPattern) (t : Try) (b : ℕ) → IsTry W.bodies f ss ps t
+      → form W (run W) E l (call f (resolveds_of ss) (resolved_patterns_of ps)) b B u ≡ run W (body_scope t.first.now) l body b B u
   tries f ss ps t b k =
-      ap (λ (qs : Places). built_all W.room qs (cells_in E) B l b go) k.patterns
+      ap (λ (qs : ResolvedPatterns). built_all W.room qs (cells_in E) B l b go) k.patterns
       ∙ some_is _ k.body b (λ d. enter (run W) (resolveds_of ss) E [] d l b B u) k.defined
       ∙ enters k.body (resolveds_of ss) t.first.now b k.variables k.is k.strategies (k.itself.argument E)
     where
@@ -78,16 +78,16 @@ module _ (W : World) (E : Scope) (l : ℕ) (B : Bindings) (u : Tree) where
       (λ t1 B1 x d. with_edits d (id_same W (body_scope s) E l x B1 t1 i)) (λ x. id_same W (body_scope s) E l x B u i))
       ∙ (λ i. form W (run W) E l (guard s (sym i2 i) (sym i3 i)) c B u)
 
-pub try_few : (W : World) (sub : Standing) (whole : Answer) (S : State) (f : ℕ) (ss : List ResolvedStrategy) (ps : List Place) (t : Try) (n : ℕ) (p : Standing)
-    → IsTry W.bodies f ss ps t → S.steps ≤ 1 → FormIn W sub whole S (call f (resolveds_of ss) (places_of ps)) n p → whole ≡ stopped spent
+pub try_few : (W : World) (sub : Standing) (whole : Answer) (S : State) (f : ℕ) (ss : List ResolvedStrategy) (ps : List ResolvedPattern) (t : Try) (n : ℕ) (p : Standing)
+    → IsTry W.bodies f ss ps t → S.steps ≤ 1 → FormIn W sub whole S (call f (resolveds_of ss) (resolved_patterns_of ps)) n p → whole ≡ stopped spent
 try_few W sub whole S f ss ps t n p k e h =
     let E = scope_at S.scopes n in
-    take_stops W sub whole S (call f (resolveds_of ss) (places_of ps)) n p spent
+    take_stops W sub whole S (call f (resolveds_of ss) (resolved_patterns_of ps)) n p spent
     (tries W E S.level S.cells.bindings (standing_tree p) f ss ps t S.steps k ∙ few W E S.level S.cells.bindings (standing_tree p) t.first.now S.steps e) h
 
 -- the choice starts
-pub try_begins : (W : World) (sub : Standing) (whole : Answer) (S : State) (f : ℕ) (ss : List ResolvedStrategy) (ps : List Place) (t : Try) (n : ℕ) (p : Standing) (c : ℕ)
-    → IsTry W.bodies f ss ps t → S.steps ≡ c + 2 → FormIn W sub whole S (call f (resolveds_of ss) (places_of ps)) n p
+pub try_begins : (W : World) (sub : Standing) (whole : Answer) (S : State) (f : ℕ) (ss : List ResolvedStrategy) (ps : List ResolvedPattern) (t : Try) (n : ℕ) (p : Standing) (c : ℕ)
+    → IsTry W.bodies f ss ps t → S.steps ≡ c + 2 → FormIn W sub whole S (call f (resolveds_of ss) (resolved_patterns_of ps)) n p
     → FormIn W sub whole (paid S c) (guard t.first.now t.second.now t.other.now) n p
 try_begins W sub whole S f ss ps t n p c k e h =
     let E = scope_at S.scopes n in

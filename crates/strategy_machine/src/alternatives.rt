@@ -6,7 +6,7 @@ ghost use Rattle.term_changes.specs.Standing.{standing_tree};
 ghost use Rattle.strategy_machine.specs.inside.Missing.{Passes};
 
 use crate::heads::rules_out;
-use strategy_syntax::{Place, ResolvedForm as Form, ResolvedStrategy};
+use strategy_syntax::{ResolvedForm as Form, ResolvedPattern, ResolvedStrategy};
 use term_values::Part;
 
 /// What remains of a choice, with the steps left, after the first alternatives that are rules for
@@ -58,7 +58,7 @@ fn pass_rules<'t>(
 /// The left side, if the strategy is a rule with variables of its own, or any match in their scope
 /// followed by a strategy.
 #[inline(always)]
-pub(crate) fn left_side(strategy: &ResolvedStrategy) -> Option<&Place>
+pub(crate) fn left_side(strategy: &ResolvedStrategy) -> Option<&ResolvedPattern>
     ensures { IfSome result (λ pattern. (n : ℕ) × (then : ResolvedStrategy)
         × (strategy.now ≡ scope_form n (seq (matches pattern.now) then))) }
 {

@@ -3,7 +3,7 @@
 ghost use Rattle.std.specs.Prelude.{◌≡◌, ◌≤◌, ◌++◌, ℕ, List, map, Some, IfOk, OnOk};
 ghost use Rattle.term_core.specs.Tree.{Tree};
 ghost use Rattle.term_core.specs.declared.TheConstants.{MAX_ROOM};
-ghost use Rattle.strategy_syntax.specs.Resolved.{places_of};
+ghost use Rattle.strategy_syntax.specs.Resolved.{resolved_patterns_of};
 ghost use Rattle.strategy_meaning.specs.Scopes.{cells_in};
 ghost use Rattle.strategy_meaning.specs.Answer.{Answer, failed, stopped, big};
 ghost use Rattle.strategy_meaning.specs.Meaning.{built_all};
@@ -14,7 +14,7 @@ ghost use Rattle.strategy_machine.specs.inside.Arguments.{AreBuilt};
 use crate::machine::InTable;
 use crate::scopes::Scopes;
 use std::alloc::Global;
-use strategy_syntax::Place;
+use strategy_syntax::ResolvedPattern;
 use term_core::{NoMemory, Term};
 use term_match::{Built, Cells};
 use term_values::Value;
@@ -39,18 +39,18 @@ pub(crate) fn build_all<'t>(
     scope: usize,
     level: u64,
     room: u32,
-    patterns: &'t [Place],
+    patterns: &'t [ResolvedPattern],
     arguments: &mut Vec<Value<'t>>,
 ) -> Result<BuiltAll, NoMemory>
     requires { room ≤ MAX_ROOM }
     ensures cells { cells.new ≡ cells.old }
-    ensures ok { IfOk result (λ all. AreBuilt room (places_of patterns.now) (cells_in (scope_at (scopes_of scopes.now) scope))
+    ensures ok { IfOk result (λ all. AreBuilt room (resolved_patterns_of patterns.now) (cells_in (scope_at (scopes_of scopes.now) scope))
         cells.old.bindings level arguments.new.items all) }
 {
     arguments.clear();
     'each: for i in 0..patterns.len() {
-        let places = InTable { scopes, scope };
-        match cells.build(alloc, &places, &patterns[i], level, room)? {
+        let variables = InTable { scopes, scope };
+        match cells.build(alloc, &variables, &patterns[i], level, room)? {
             Built::Value(value) => arguments.push(value)?,
             Built::Nothing => return Ok(BuiltAll::Nothing),
             Built::Big => return Ok(BuiltAll::Big),

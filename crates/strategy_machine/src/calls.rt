@@ -2,7 +2,7 @@
 
 ghost use Rattle.std.specs.Prelude.{◌≡◌, ◌<◌, ◌≤◌, ◌++◌, map, replicate, length, Some, None, IfOk};
 ghost use Rattle.term_core.specs.declared.TheConstants.{MAX_ROOM};
-ghost use Rattle.strategy_syntax.specs.Resolved.{scope as scope_form, rec, param, call, prim, resolveds_of, places_of};
+ghost use Rattle.strategy_syntax.specs.Resolved.{scope as scope_form, rec, param, call, prim, resolveds_of, resolved_patterns_of};
 ghost use Rattle.strategy_machine.specs.Table.{scopes as scopes_of};
 ghost use Rattle.strategy_meaning.specs.Laws.{in_room};
 ghost use Rattle.strategy_meaning.specs.Meaning.{World, primitive_answer};
@@ -20,7 +20,7 @@ use crate::scopes::Closure;
 use crate::tries::{take_try, tried};
 use prim_core::Meaning;
 use std::alloc::Global;
-use strategy_syntax::{Place, Resolved, ResolvedForm as Form, ResolvedStrategy};
+use strategy_syntax::{Resolved, ResolvedForm as Form, ResolvedPattern, ResolvedStrategy};
 use term_core::{NoMemory, Term};
 use term_values::Value;
 
@@ -95,13 +95,13 @@ pub(crate) fn take_call<'t, M: Meaning>(
     m: &mut Machine<'t>,
     definition: usize,
     strategies: &'t [ResolvedStrategy],
-    patterns: &'t [Place],
+    patterns: &'t [ResolvedPattern],
     scope: usize,
 ) -> Result<Turned, NoMemory>
     requires there { scope < length (scopes_of m.old.scopes) }
     requires room { host.now.room ≤ MAX_ROOM }
     ensures ok { IfOk result (λ next. Takes (world_of M.meaning host.now.definitions.now host.now.primitives.now host.now.room) m.old
-        (call definition (resolveds_of strategies.entry.now) (places_of patterns.entry.now)) scope m.old.part m.new next) }
+        (call definition (resolveds_of strategies.entry.now) (resolved_patterns_of patterns.entry.now)) scope m.old.part m.new next) }
     ensures less { IfOk result (λ next. TakeFalls m.old m.new next) }
 {
     if let Some(tried) = tried(host.definitions, definition, strategies, patterns) {
@@ -159,12 +159,12 @@ pub(crate) fn take_prim<'t, M: Meaning>(
     host: &Host<'t, M>,
     m: &mut Machine<'t>,
     primitive: usize,
-    patterns: &'t [Place],
+    patterns: &'t [ResolvedPattern],
     scope: usize,
 ) -> Result<Turned, NoMemory>
     requires { host.now.room ≤ MAX_ROOM }
     ensures ok { IfOk result (λ next. Takes (world_of M.meaning host.now.definitions.now host.now.primitives.now host.now.room) m.old
-        (prim primitive (places_of patterns.entry.now)) scope m.old.part m.new next) }
+        (prim primitive (resolved_patterns_of patterns.entry.now)) scope m.old.part m.new next) }
     ensures less { IfOk result (λ next. TakeFalls m.old m.new next) }
 {
     let built = build_all(

@@ -16,7 +16,7 @@ use crate::frames::{Turned, drop_value};
 use crate::heads::misses;
 use crate::machine::{InTable, Machine};
 use std::alloc::Global;
-use strategy_syntax::{Place, Resolved, ResolvedForm as Form, ResolvedStrategy};
+use strategy_syntax::{Resolved, ResolvedForm as Form, ResolvedPattern, ResolvedStrategy};
 use term_core::NoMemory;
 use term_match::Built;
 
@@ -27,8 +27,8 @@ pub(crate) fn rewrite_or<'t>(
     alloc: Global,
     room: u32,
     m: &mut Machine<'t>,
-    left: &'t Place,
-    right: &'t Place,
+    left: &'t ResolvedPattern,
+    right: &'t ResolvedPattern,
     second: &'t ResolvedStrategy,
     other: &'t ResolvedStrategy,
     scope: usize,
@@ -47,11 +47,11 @@ pub(crate) fn rewrite_or<'t>(
     }
     let mark = m.cells.mark();
     let value = m.part.value()?;
-    let places = InTable {
+    let variables = InTable {
         scopes: &m.scopes,
         scope,
     };
-    let found = m.cells.matches(alloc, &places, left, &value);
+    let found = m.cells.matches(alloc, &variables, left, &value);
     drop_value(value);
     let matched = found?;
     if !matched {
@@ -62,7 +62,7 @@ pub(crate) fn rewrite_or<'t>(
         return Ok(Turned::Spent);
     }
     m.steps -= 1;
-    match m.cells.build(alloc, &places, right, m.level, room)? {
+    match m.cells.build(alloc, &variables, right, m.level, room)? {
         Built::Nothing => {
             m.cells.back_to(mark);
             Ok(m.goes_on(other, scope))
@@ -80,8 +80,8 @@ pub(crate) fn rewrite_or<'t>(
 pub(crate) struct Rule<'t> {
     /// How many variables it has.
     pub count: usize,
-    pub left: &'t Place,
-    pub right: &'t Place,
+    pub left: &'t ResolvedPattern,
+    pub right: &'t ResolvedPattern,
     /// The scope around its variables, or `None` for the empty one.
     pub outer: Option<usize>,
     /// The steps up to its match, and that of the match.
@@ -178,11 +178,11 @@ pub(crate) fn rule_or<'t>(
     m.cells.open_cells(rule.count)?;
     let inner = m.scopes.add_variables(rule.outer, first, rule.count)?;
     let value = m.part.value()?;
-    let places = InTable {
+    let variables = InTable {
         scopes: &m.scopes,
         scope: inner,
     };
-    let found = m.cells.matches(alloc, &places, rule.left, &value);
+    let found = m.cells.matches(alloc, &variables, rule.left, &value);
     drop_value(value);
     let matched = found?;
     if !matched {
@@ -194,7 +194,7 @@ pub(crate) fn rule_or<'t>(
         return Ok(Turned::Spent);
     }
     m.steps -= 1;
-    let built = m.cells.build(alloc, &places, rule.right, m.level, room)?;
+    let built = m.cells.build(alloc, &variables, rule.right, m.level, room)?;
     m.scopes.cut(scopes);
     match built {
         Built::Nothing => {

@@ -17,7 +17,7 @@ use crate::heads::{MOST, left_by_failure};
 use crate::machine::{Host, InTable, Machine};
 use prim_core::Meaning;
 use std::alloc::Global;
-use strategy_syntax::{Place, ResolvedForm as Form, ResolvedStrategy};
+use strategy_syntax::{ResolvedForm as Form, ResolvedPattern, ResolvedStrategy};
 use term_core::NoMemory;
 use term_match::Built;
 use term_values::{Part, Value};
@@ -26,18 +26,18 @@ use term_values::{Part, Value};
 pub(crate) fn take_match<'t>(
     alloc: Global,
     m: &mut Machine<'t>,
-    pattern: &'t Place,
+    pattern: &'t ResolvedPattern,
     scope: usize,
 ) -> Result<Turned, NoMemory>
     ensures ok { (W : World) → IfOk result (λ next. Takes W m.old (matches pattern.entry.now) scope m.old.part m.new next) }
     ensures less { IfOk result (λ next. TakeFalls m.old m.new next) }
 {
     let value = m.part.value()?;
-    let places = InTable {
+    let variables = InTable {
         scopes: &m.scopes,
         scope,
     };
-    let matched = m.cells.matches(alloc, &places, pattern, &value);
+    let matched = m.cells.matches(alloc, &variables, pattern, &value);
     drop_value(value);
     if matched? {
         Ok(m.gives())
@@ -52,18 +52,18 @@ pub(crate) fn take_build<'t>(
     alloc: Global,
     room: u32,
     m: &mut Machine<'t>,
-    pattern: &'t Place,
+    pattern: &'t ResolvedPattern,
     scope: usize,
 ) -> Result<Turned, NoMemory>
     requires { room ≤ MAX_ROOM }
     ensures ok { (W : World) → IfOk result (λ next. Takes (in_room room W) m.old (builds pattern.entry.now) scope m.old.part m.new next) }
     ensures less { IfOk result (λ next. TakeFalls m.old m.new next) }
 {
-    let places = InTable {
+    let variables = InTable {
         scopes: &m.scopes,
         scope,
     };
-    match m.cells.build(alloc, &places, pattern, m.level, room)? {
+    match m.cells.build(alloc, &variables, pattern, m.level, room)? {
         Built::Nothing => Ok(m.fails()),
         Built::Big => Ok(Turned::Big),
         Built::Value(value) => {
@@ -185,7 +185,7 @@ fn all_first<'t>(
 fn match_first<'t>(
     alloc: Global,
     m: &mut Machine<'t>,
-    pattern: &'t Place,
+    pattern: &'t ResolvedPattern,
     second: &'t ResolvedStrategy,
     scope: usize,
 ) -> Result<Turned, NoMemory>
@@ -197,11 +197,11 @@ fn match_first<'t>(
     }
     m.steps -= 1;
     let value = m.part.value()?;
-    let places = InTable {
+    let variables = InTable {
         scopes: &m.scopes,
         scope,
     };
-    let matched = m.cells.matches(alloc, &places, pattern, &value);
+    let matched = m.cells.matches(alloc, &variables, pattern, &value);
     drop_value(value);
     if matched? {
         Ok(m.begins(second, scope))

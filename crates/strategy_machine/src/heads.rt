@@ -13,7 +13,9 @@ ghost use Rattle.strategy_machine.specs.inside.Missing.{Misses, FailsAhead};
 use crate::alternatives::{after_rules, left_side};
 use crate::congruence::{is_list_from, is_over};
 use crate::scopes::Scopes;
-use strategy_syntax::{Head, Place, PlaceForm, Resolved, ResolvedForm as Form, ResolvedStrategy};
+use strategy_syntax::{
+    Head, Resolved, ResolvedForm as Form, ResolvedPattern, ResolvedPatternForm, ResolvedStrategy,
+};
 use term_core::Kind;
 use term_values::Part;
 
@@ -116,7 +118,7 @@ pub(crate) fn left_by_failure<'t>(
 }
 
 /// Whether the root's kind shows that the pattern can't match.
-pub(crate) fn misses(pattern: &Place, part: &Part<'_>) -> bool
+pub(crate) fn misses(pattern: &ResolvedPattern, part: &Part<'_>) -> bool
     ensures { OnTrue result (Misses pattern.now (standing_tree part.now)) }
 {
     rules_out(pattern, part.kind())
@@ -124,13 +126,13 @@ pub(crate) fn misses(pattern: &Place, part: &Part<'_>) -> bool
 
 /// Whether the root of the pattern shows that no term of this kind matches it.
 #[inline(always)]
-pub(crate) fn rules_out(pattern: &Place, kind: Kind<'_>) -> bool
+pub(crate) fn rules_out(pattern: &ResolvedPattern, kind: Kind<'_>) -> bool
     ensures { (t : Tree) → t ≡ made_of kind.entry (children t) (annotations t) → OnTrue result (Misses pattern.now t) }
 {
     match pattern.form() {
-        PlaceForm::Integer(number) => !is_integer(*number, kind),
-        PlaceForm::Compound(head, _) => !is_headed(head, kind),
-        PlaceForm::WithTail(_, _) => !is_list_kind(kind),
+        ResolvedPatternForm::Integer(number) => !is_integer(*number, kind),
+        ResolvedPatternForm::Compound(head, _) => !is_headed(head, kind),
+        ResolvedPatternForm::WithTail(_, _) => !is_list_kind(kind),
         _ => false,
     }
 }

@@ -32,5 +32,5 @@ pub use lends::Spot;
 pub use machine::{Host, Machine};
 pub use scopes::{Closure, Scopes};
 pub use stack::Frames;
-pub use trail::{Made, Trail};
+pub use trail::{Edit, Trail};
 pub use turning::turn;

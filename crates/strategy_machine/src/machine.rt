@@ -18,7 +18,7 @@ use prim_core::{Meaning, Primitives};
 use std::alloc::Global;
 use strategy_syntax::{Resolved, ResolvedForm as Form, ResolvedStrategy};
 use term_core::Term;
-use term_match::{Cells, Places};
+use term_match::{Cells, VariableCells};
 use term_values::{Part, Value};
 
 /// What the numbers of definitions and primitives stand for, and the room for a built term: the
@@ -139,8 +139,8 @@ pub(crate) struct InTable<'s, 't> {
     pub scope: usize,
 }
 
-impl<'s, 't> Places for InTable<'s, 't> {
-    ghost places = { λ s. cells_in (scope_at (scopes_of s.scopes.now) s.scope) };
+impl<'s, 't> VariableCells for InTable<'s, 't> {
+    ghost variables = { λ s. cells_in (scope_at (scopes_of s.scopes.now) s.scope) };
 
     fn cell(&self, variable: usize) -> Option<usize> {
         self.scopes.cell(self.scope, variable)

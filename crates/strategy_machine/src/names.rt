@@ -3,7 +3,7 @@
 
 ghost use Rattle.std.specs.Prelude.{◌≡◌, ◌<◌, [], length, IfSome, MatchOption};
 ghost use Rattle.strategy_meaning.specs.Scopes.{inside, arguments};
-ghost use Rattle.strategy_syntax.specs.Resolved.{call, resolveds_of, places_of};
+ghost use Rattle.strategy_syntax.specs.Resolved.{call, resolveds_of, resolved_patterns_of};
 ghost use Rattle.strategy_machine.specs.Table.{scopes as scopes_of, scope_at};
 ghost use Rattle.strategy_machine.specs.Turns.{world_of};
 ghost use Rattle.strategy_machine.specs.inside.Names.{Runs, ComesTo, IsSpent};
@@ -11,7 +11,7 @@ ghost use Rattle.strategy_machine.specs.inside.Names.{Runs, ComesTo, IsSpent};
 use crate::machine::{Host, Machine};
 use crate::scopes::{Closure, Scopes};
 use prim_core::Meaning;
-use strategy_syntax::{Place, ResolvedForm as Form, ResolvedStrategy};
+use strategy_syntax::{ResolvedForm as Form, ResolvedPattern, ResolvedStrategy};
 
 /// A strategy whose step is charged, its scope, and the steps left.
 #[derive(Clone, Copy)]
@@ -100,12 +100,12 @@ fn ready_body<'t, M: Meaning>(
     scopes: &Scopes<'t>,
     definition: usize,
     strategies: &[ResolvedStrategy],
-    patterns: &[Place],
+    patterns: &[ResolvedPattern],
     scope: usize,
 ) -> Option<Closure<'t>>
     requires { scope < length (scopes_of scopes.now) }
     ensures { IfSome result (λ k. Runs (world_of M.meaning host.now.definitions.now host.now.primitives.now host.now.room) (scopes_of scopes.now)
-        (call definition (resolveds_of strategies.now) (places_of patterns.now)) scope k.strategy.now k.written_in) }
+        (call definition (resolveds_of strategies.now) (resolved_patterns_of patterns.now)) scope k.strategy.now k.written_in) }
 {
     if patterns.len() != 0 {
         return None;

@@ -12,7 +12,7 @@ use crate::forms::replace;
 use crate::frames::{Turned, drop_value};
 use crate::machine::{InTable, Machine};
 use std::alloc::Global;
-use strategy_syntax::Place;
+use strategy_syntax::ResolvedPattern;
 use term_core::NoMemory;
 use term_match::Built;
 
@@ -23,8 +23,8 @@ pub(crate) fn take_rule<'t>(
     room: u32,
     m: &mut Machine<'t>,
     count: usize,
-    left: &'t Place,
-    right: &'t Place,
+    left: &'t ResolvedPattern,
+    right: &'t ResolvedPattern,
     scope: usize,
 ) -> Result<Turned, NoMemory>
     requires room { room ≤ MAX_ROOM }
@@ -44,11 +44,11 @@ pub(crate) fn take_rule<'t>(
     m.cells.open_cells(count)?;
     let inner = m.scopes.add_variables(Some(scope), first, count)?;
     let value = m.part.value()?;
-    let places = InTable {
+    let variables = InTable {
         scopes: &m.scopes,
         scope: inner,
     };
-    let found = m.cells.matches(alloc, &places, left, &value);
+    let found = m.cells.matches(alloc, &variables, left, &value);
     drop_value(value);
     let matched = found?;
     if !matched {
@@ -60,7 +60,7 @@ pub(crate) fn take_rule<'t>(
         return Ok(Turned::Spent);
     }
     m.steps -= 1;
-    let built = m.cells.build(alloc, &places, right, m.level, room)?;
+    let built = m.cells.build(alloc, &variables, right, m.level, room)?;
     m.cells.close_to(first);
     m.scopes.cut(scopes);
     match built {

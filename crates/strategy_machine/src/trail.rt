@@ -14,12 +14,12 @@ use term_values::Value;
 
 /// A replaced place, by its path in the term of the run, and its new value.
 #[derive(Drop)]
-pub struct Made<'t> {
+pub struct Edit<'t> {
     pub path: Vec<usize>,
     pub value: Value<'t>,
 }
 
-impl<'t> Model for Made<'t> {
+impl<'t> Model for Edit<'t> {
     ghost use Rattle.term_paths.specs.Edits.{Edit};
     ghost use Rattle.term_changes.specs.inside.ChangeCode.{edit_code};
 
@@ -30,7 +30,7 @@ impl<'t> Model for Made<'t> {
     ghost view = { λ a. record { path = a.path.items; new = a.value } };
 }
 
-impl<'t> Made<'t> {
+impl<'t> Edit<'t> {
     // Adds the edit to the plan, with `path` in front of its own, as an owned term.
     fn add_to(
         &self,
@@ -51,7 +51,7 @@ impl<'t> Made<'t> {
 #[derive(Drop)]
 pub struct Trail<'t> {
     pub count: usize,
-    pub made: Option<Vec<Made<'t>>>,
+    pub made: Option<Vec<Edit<'t>>>,
 }
 
 impl<'t> Trail<'t> {
@@ -127,14 +127,14 @@ impl<'t> Trail<'t> {
 #[inline(never)]
 fn keep<'t>(
     alloc: Global,
-    made: &mut Vec<Made<'t>>,
+    made: &mut Vec<Edit<'t>>,
     frames: &Frames<'t>,
     value: &Value<'t>,
 ) -> Result<(), NoMemory>
     ensures { OnOk result (made.new.items ≡ made.old.items ++ record { path = path_of (reverse frames.now); new = value.now } ∷ []) }
 {
     let path = frames.path(alloc)?;
-    made.push(Made {
+    made.push(Edit {
         path,
         value: value.try_clone()?,
     })?;

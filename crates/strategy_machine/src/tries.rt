@@ -4,7 +4,7 @@
 ghost use Rattle.std.specs.Prelude.{◌≡◌, ◌<◌, ◌≤◌, ℕ, List, length, IfOk, IfSome};
 ghost use Rattle.std.specs.Bool.{OnTrue};
 ghost use Rattle.term_core.specs.declared.TheConstants.{MAX_ROOM};
-ghost use Rattle.strategy_syntax.specs.Resolved.{Place, ResolvedStrategy, id, param, call, resolveds_of, places_of};
+ghost use Rattle.strategy_syntax.specs.Resolved.{ResolvedPattern, ResolvedStrategy, id, param, call, resolveds_of, resolved_patterns_of};
 ghost use Rattle.strategy_machine.specs.inside.Tries.{IsTry, IsItself};
 ghost use Rattle.strategy_machine.specs.Table.{scopes as scopes_of};
 ghost use Rattle.strategy_machine.specs.Turns.{world_of};
@@ -15,7 +15,7 @@ use crate::frames::Turned;
 use crate::machine::{Host, Machine};
 use prim_core::Meaning;
 use std::alloc::Global;
-use strategy_syntax::{Place, Resolved, ResolvedForm as Form, ResolvedStrategy};
+use strategy_syntax::{Resolved, ResolvedForm as Form, ResolvedPattern, ResolvedStrategy};
 use term_core::NoMemory;
 
 /// A strategy to try, with the second and the third branch of the choice.
@@ -32,7 +32,7 @@ pub(crate) fn tried<'t>(
     definitions: &'t [Resolved],
     definition: usize,
     strategies: &'t [ResolvedStrategy],
-    patterns: &[Place],
+    patterns: &[ResolvedPattern],
 ) -> Option<Try<'t>>
     ensures { IfSome result (λ t. IsTry definitions.entry.now definition strategies.entry.now patterns.now t) }
 {
@@ -100,8 +100,8 @@ pub(crate) fn take_try<'t, M: Meaning>(
 ) -> Result<Turned, NoMemory>
     requires there { scope < length (scopes_of m.old.scopes) }
     requires room { host.now.room ≤ MAX_ROOM }
-    ensures ok { IfOk result (λ next. (f : ℕ) (ss : List ResolvedStrategy) (ps : List Place) → IsTry host.now.definitions.now f ss ps t.entry
-        → Takes (world_of M.meaning host.now.definitions.now host.now.primitives.now host.now.room) m.old (call f (resolveds_of ss) (places_of ps)) scope m.old.part m.new next) }
+    ensures ok { IfOk result (λ next. (f : ℕ) (ss : List ResolvedStrategy) (ps : List ResolvedPattern) → IsTry host.now.definitions.now f ss ps t.entry
+        → Takes (world_of M.meaning host.now.definitions.now host.now.primitives.now host.now.room) m.old (call f (resolveds_of ss) (resolved_patterns_of ps)) scope m.old.part m.new next) }
     ensures less { IfOk result (λ next. TakeFalls m.old m.new next) }
 {
     if m.steps < 2 {

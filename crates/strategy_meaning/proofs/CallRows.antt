@@ -4,7 +4,7 @@ use Rattle.term_core.specs.Tree.{Tree}
 use Rattle.term_core.specs.declared.TheConstants.{MAX_SIZE}
 use Rattle.prim_core.specs.StandardTable.{standard_signatures}
 use Rattle.prim_core.specs.Standard.{standard}
-use Rattle.strategy_syntax.specs.Resolved.{variable, places_of, ResolvedStrategy, id, fail, matches, builds, seq, guard, scope, param, call, rec, prim, test, resolveds_of}
+use Rattle.strategy_syntax.specs.Resolved.{variable, resolved_patterns_of, ResolvedStrategy, id, fail, matches, builds, seq, guard, scope, param, call, rec, prim, test, resolveds_of}
 use Rattle.strategy_meaning.specs.Answer.{Answer, done, failed, stopped, spent, big}
 use Rattle.strategy_meaning.specs.Meaning.{World, run_whole}
 use Rattle.strategy_meaning.proofs.RowTerms.{edit, A, B, F, G, pattern, to_A, to_B, cong, or_else, call1, call0, with_free, body}
@@ -36,7 +36,7 @@ scope_in_an_argument : answer 0 (call1 1 (scope 1 (seq to_B (matches (variable 0
 scope_in_an_argument = refl
 
 -- `h(?x|B()); !G(x)`: an argument binds for its caller, who keeps the binding after the call
-argument_and_term : answer 1 (seq (call 2 (resolveds_of (matches (variable 0) ∷ [])) (places_of (pattern 66 [] ∷ [])))
+argument_and_term : answer 1 (seq (call 2 (resolveds_of (matches (variable 0) ∷ [])) (resolved_patterns_of (pattern 66 [] ∷ [])))
     (builds (pattern 71 (variable 0 ∷ [])))) 100 A ≡ done (G A) (Some A ∷ []) 93 (edit [] (F B B) ∷ (edit [] (G A) ∷ []))
 argument_and_term = refl
 
@@ -46,10 +46,10 @@ name_handed_on = refl
 
 -- arguments are built and tested one by one, the whole instance of a build before it is tested:
 -- `prim("addi",A(),x)`, `prim("addi",x,A())` and `!F(A(),x)` at level 1000
-first_too_big : run_whole definitions 1000 (with_free 1 (prim 0 (places_of (pattern 65 [] ∷ (variable 0 ∷ []))))) 100 B ≡ stopped big
+first_too_big : run_whole definitions 1000 (with_free 1 (prim 0 (resolved_patterns_of (pattern 65 [] ∷ (variable 0 ∷ []))))) 100 B ≡ stopped big
 first_too_big = refl
 
-first_not_built : run_whole definitions 1000 (with_free 1 (prim 0 (places_of (variable 0 ∷ (pattern 65 [] ∷ []))))) 100 B ≡ failed 99
+first_not_built : run_whole definitions 1000 (with_free 1 (prim 0 (resolved_patterns_of (variable 0 ∷ (pattern 65 [] ∷ []))))) 100 B ≡ failed 99
 first_not_built = refl
 
 instance_before_its_size : run_whole definitions 1000 (with_free 1 (builds (pattern 70 (pattern 65 [] ∷ (variable 0 ∷ []))))) 100 B ≡ failed 99

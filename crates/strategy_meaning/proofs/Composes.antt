@@ -4,8 +4,8 @@ use Rattle.std.specs.declared.option.Option.{Option}
 use Rattle.term_core.specs.Tree.{Tree, children, with_child}
 use Rattle.term_core.specs.Size.{fits}
 use Rattle.term_paths.specs.Edits.{Edits, prefixed}
-use Rattle.strategy_syntax.specs.Resolved.{Places, no_places, and_place, ResolvedStrategy, id, fail, matches, builds, seq, guard, test, scope, param, call, congruence, tail_congruence, all, one, some, child, rec, prim, resolved_list}
-use Rattle.strategy_meaning.specs.Matching.{Bindings, match_place, build_place, elements}
+use Rattle.strategy_syntax.specs.Resolved.{ResolvedPatterns, no_resolved_patterns, and_resolved_pattern, ResolvedStrategy, id, fail, matches, builds, seq, guard, test, scope, param, call, congruence, tail_congruence, all, one, some, child, rec, prim, resolved_list}
+use Rattle.strategy_meaning.specs.Matching.{Bindings, match_pattern, build_pattern, elements}
 use Rattle.strategy_meaning.specs.Scopes.{Scope, cells_in, stands_for, with_variables, with_name}
 use Rattle.strategy_meaning.specs.Answer.{Answer, done, failed, stopped, big, IfDone, Act, either, with_edits, and_then, at_root}
 use Rattle.strategy_meaning.specs.Meaning.{World, primitive_answer, Evaluation, with_some, on_child, each, leftmost, those_done, on_child_number, is_over, is_list_from, rest_of, with_rest, on_rest, built, built_all, opened, form, run_bounded}
@@ -102,11 +102,11 @@ module _ (K : ℕ → Tree → Tree → Edits → Type 0) (k : Composes K) where
     by u true g = g refl
     by u false g = tt
 
-  built_all-gives : (room l : ℕ) (t : Tree) (ps : Places) (E : List ℕ) (B : Bindings) (c : ℕ) (go : List Tree → Answer)
+  built_all-gives : (room l : ℕ) (t : Tree) (ps : ResolvedPatterns) (E : List ℕ) (B : Bindings) (c : ℕ) (go : List Tree → Answer)
       → ((us : List Tree) → Gives l t (go us)) → Gives l t (built_all room ps E B l c go)
-  built_all-gives room l t no_places E B c go h = h []
-  built_all-gives room l t (and_place p ps) E B c go h =
-      built-gives room l t (build_place p E B) c _ (λ u fit. built_all-gives room l t ps E B c _ (λ us. h (u ∷ us)))
+  built_all-gives room l t no_resolved_patterns E B c go h = h []
+  built_all-gives room l t (and_resolved_pattern p ps) E B c go h =
+      built-gives room l t (build_pattern p E B) c _ (λ u fit. built_all-gives room l t ps E B c _ (λ us. h (u ∷ us)))
 
   opened-gives : (part : Evaluation) (E : Scope) (new : Bindings) (l : ℕ) (x : ResolvedStrategy) → PartGives part → ActGives l (opened part E new l x)
   opened-gives part E new l x h c B t =
@@ -116,9 +116,9 @@ module _ (K : ℕ → Tree → Tree → Edits → Type 0) (k : Composes K) where
   form-gives W part h E l id c B t = k.left l t
   form-gives W part h E l fail c B t = tt
   form-gives W part h E l (matches p) c B t =
-      some-gives l t (match_place p t (cells_in E) B) c _ (λ B1 is. k.left l t)
+      some-gives l t (match_pattern p t (cells_in E) B) c _ (λ B1 is. k.left l t)
   form-gives W part h E l (builds p) c B t =
-      built-gives W.room l t (build_place p (cells_in E) B) c _ (λ u fit. k.built W.room l t u fit)
+      built-gives W.room l t (build_pattern p (cells_in E) B) c _ (λ u fit. k.built W.room l t u fit)
   form-gives W part h E l (seq s1 s2) c B t = and_then-gives l t _ _ (h E l s1 c B t) (h E l s2)
   form-gives W part h E l (guard s1 s2 s3) c B t =
       either-gives (K l t) l t (part E l s1 c B t) _ _ (h E l s1 c B t)

@@ -4,7 +4,7 @@ use Rattle.term_core.specs.Tree.{tuple, Tree, integer_term, application_term}
 use Rattle.term_core.specs.declared.TheConstants.{MAX_SIZE}
 use Rattle.prim_core.specs.StandardTable.{standard_signatures}
 use Rattle.prim_core.specs.Standard.{standard}
-use Rattle.strategy_syntax.specs.Resolved.{Place, variable, compound, places_of, ResolvedStrategy, id, matches, builds, seq, test, scope, param, all, prim}
+use Rattle.strategy_syntax.specs.Resolved.{ResolvedPattern, variable, compound, resolved_patterns_of, ResolvedStrategy, id, matches, builds, seq, test, scope, param, all, prim}
 use Rattle.strategy_meaning.specs.Answer.{done, stopped, big}
 use Rattle.strategy_meaning.specs.Meaning.{World, run_whole}
 use Rattle.strategy_meaning.proofs.RowTerms.{edit, word, pattern, or_else, call1, call0, with_free, body}
@@ -12,8 +12,8 @@ use Rattle.strategy_meaning.proofs.RowTerms.{edit, word, pattern, or_else, call1
 abbrev Plus : Tree → Tree → Tree
 Plus t u = application_term (word 80) (t ∷ (u ∷ []))
 
-abbrev pair : Place → Place → Place
-pair p q = compound tuple (places_of (p ∷ (q ∷ [])))
+abbrev pair : ResolvedPattern → ResolvedPattern → ResolvedPattern
+pair p q = compound tuple (resolved_patterns_of (p ∷ (q ∷ [])))
 
 -- 0 try, 1 repeat, 2 bottomup, 3 innermost, 4 add, 5 P
 abbrev arith : World
@@ -22,7 +22,7 @@ arith = record {
       ∷ (body (call1 0 (seq (param 0) (call1 1 (param 0))))
       ∷ (body (seq (all (call1 2 (param 0))) (param 0))
       ∷ (body (call1 2 (call1 0 (seq (param 0) (call1 3 (param 0)))))
-      ∷ (with_free 2 (seq (matches (pair (variable 0) (variable 1))) (prim 0 (places_of (variable 0 ∷ (variable 1 ∷ [])))))
+      ∷ (with_free 2 (seq (matches (pair (variable 0) (variable 1))) (prim 0 (resolved_patterns_of (variable 0 ∷ (variable 1 ∷ [])))))
       ∷ (body (scope 3 (seq (matches (pattern 80 (variable 0 ∷ (variable 1 ∷ [])))) (seq
       (test (seq (seq (builds (pair (variable 0) (variable 1))) (call0 4)) (matches (variable 2))))
       (builds (variable 2))))) ∷ [])))));

@@ -4,7 +4,7 @@ use Rattle.term_core.specs.Tree.{application, list, Tree, integer_term, list_ter
 use Rattle.term_core.specs.declared.TheConstants.{MAX_SIZE}
 use Rattle.prim_core.specs.StandardTable.{standard_signatures}
 use Rattle.prim_core.specs.Standard.{standard}
-use Rattle.strategy_syntax.specs.Resolved.{variable, number, compound, with_tail, annotated, places_of, ResolvedStrategy, id, fail, matches, builds, seq, guard, scope, param, call, congruence, tail_congruence, all, one, some, child, rec, prim, test, wildcard, at, resolveds_of}
+use Rattle.strategy_syntax.specs.Resolved.{variable, number, compound, with_tail, annotated, resolved_patterns_of, ResolvedStrategy, id, fail, matches, builds, seq, guard, scope, param, call, congruence, tail_congruence, all, one, some, child, rec, prim, test, wildcard, at, resolveds_of}
 use Rattle.strategy_meaning.specs.Answer.{Answer, done, failed, stopped, spent, big}
 use Rattle.strategy_meaning.specs.Laws.{in_room}
 use Rattle.strategy_meaning.specs.Meaning.{World, run_whole}
@@ -71,7 +71,7 @@ two_steps : answer 0 (seq fail id) 2 A ≡ failed 0
 two_steps = refl
 
 -- `{x,y: ?F(x,y); prim("addi",x,y)}`
-sum : answer 0 (scope 2 (seq (matches (pattern 70 (variable 0 ∷ (variable 1 ∷ [])))) (prim 0 (places_of (variable 0 ∷ (variable 1 ∷ [])))))) 100 (F (integer_term (pos 2)) (integer_term (pos 3)))
+sum : answer 0 (scope 2 (seq (matches (pattern 70 (variable 0 ∷ (variable 1 ∷ [])))) (prim 0 (resolved_patterns_of (variable 0 ∷ (variable 1 ∷ [])))))) 100 (F (integer_term (pos 2)) (integer_term (pos 3)))
     ≡ done (integer_term (pos 5)) [] 96 (edit [] (integer_term (pos 5)) ∷ [])
 sum = refl
 
@@ -79,7 +79,7 @@ sum = refl
 nothing_fits_there : run_whole library 1000 (body to_A) 100 B ≡ stopped big
 nothing_fits_there = refl
 
-more_annotations : answer 0 (matches (annotated (pattern 65 []) (places_of (number (pos 1) ∷ [])))) 100
+more_annotations : answer 0 (matches (annotated (pattern 65 []) (resolved_patterns_of (number (pos 1) ∷ [])))) 100
     (with_annotations A (integer_term (pos 1) ∷ (integer_term (pos 2) ∷ []))) ≡ failed 99
 more_annotations = refl
 
@@ -89,7 +89,7 @@ more_children = refl
 annotations_not_looked_at : answer 0 (matches (pattern 65 [])) 100 A1 ≡ done A1 [] 99 []
 annotations_not_looked_at = refl
 
-annotations_differ : answer 0 (matches (annotated (pattern 65 []) (places_of (number (pos 2) ∷ [])))) 100 A1 ≡ failed 99
+annotations_differ : answer 0 (matches (annotated (pattern 65 []) (resolved_patterns_of (number (pos 2) ∷ [])))) 100 A1 ≡ failed 99
 annotations_differ = refl
 
 variable_met_again_with_annotations : answer 1 (matches (pattern 70 (variable 0 ∷ (variable 0 ∷ [])))) 100 (F A1 A) ≡ failed 99
@@ -116,34 +116,34 @@ child_3 : answer 0 (child 3 id) 100 (F A A) ≡ failed 99
 child_3 = refl
 
 -- `?[x|y]; ![y,x|y]`
-tails : answer 2 (seq (matches (with_tail (places_of (variable 0 ∷ [])) (variable 1))) (builds (with_tail (places_of (variable 1 ∷ (variable 0 ∷ []))) (variable 1)))) 100 (both A)
+tails : answer 2 (seq (matches (with_tail (resolved_patterns_of (variable 0 ∷ [])) (variable 1))) (builds (with_tail (resolved_patterns_of (variable 1 ∷ (variable 0 ∷ []))) (variable 1)))) 100 (both A)
     ≡ done (list_term (list_term (A ∷ []) ∷ (A ∷ (A ∷ [])))) (Some A ∷ (Some (list_term (A ∷ [])) ∷ [])) 97 (edit [] (list_term (list_term (A ∷ []) ∷ (A ∷ (A ∷ [])))) ∷ [])
 tails = refl
 
 -- `?[x|y]` binds y to a list without annotations, even if the list has some
-noted_list : answer 2 (seq (matches (with_tail (places_of (variable 0 ∷ [])) (variable 1))) (builds (variable 1))) 100 (both A)
+noted_list : answer 2 (seq (matches (with_tail (resolved_patterns_of (variable 0 ∷ [])) (variable 1))) (builds (variable 1))) 100 (both A)
     ≡ done (list_term (A ∷ [])) (Some A ∷ (Some (list_term (A ∷ [])) ∷ [])) 97 (edit [] (list_term (A ∷ [])) ∷ [])
 noted_list = refl
 
 -- a tail that is no list, and a pattern with more elements than the list
-tail_is_no_list : answer 1 (seq (matches (variable 0)) (builds (with_tail (places_of []) (variable 0)))) 100 A ≡ failed 97
+tail_is_no_list : answer 1 (seq (matches (variable 0)) (builds (with_tail (resolved_patterns_of []) (variable 0)))) 100 A ≡ failed 97
 tail_is_no_list = refl
 
-list_too_short : answer 1 (matches (with_tail (places_of (wildcard ∷ (wildcard ∷ (wildcard ∷ [])))) (variable 0))) 100 (both A) ≡ failed 99
+list_too_short : answer 1 (matches (with_tail (resolved_patterns_of (wildcard ∷ (wildcard ∷ (wildcard ∷ [])))) (variable 0))) 100 (both A) ≡ failed 99
 list_too_short = refl
 
 -- `?x@A()`, `?x{1}`: with its annotations, and without
 named : answer 1 (matches (at 0 (pattern 65 []))) 100 A1 ≡ done A1 (Some A1 ∷ []) 99 []
 named = refl
 
-bare_binding : answer 1 (matches (annotated (variable 0) (places_of (number (pos 1) ∷ [])))) 100 A1 ≡ done A1 (Some A ∷ []) 99 []
+bare_binding : answer 1 (matches (annotated (variable 0) (resolved_patterns_of (number (pos 1) ∷ [])))) 100 A1 ≡ done A1 (Some A ∷ []) 99 []
 bare_binding = refl
 
 -- `!A(){1}` on any term, `?x; !x{}`
-built_with_annotations : answer 0 (builds (annotated (pattern 65 []) (places_of (number (pos 1) ∷ [])))) 100 B ≡ done A1 [] 99 (edit [] A1 ∷ [])
+built_with_annotations : answer 0 (builds (annotated (pattern 65 []) (resolved_patterns_of (number (pos 1) ∷ [])))) 100 B ≡ done A1 [] 99 (edit [] A1 ∷ [])
 built_with_annotations = refl
 
-built_without_annotations : answer 1 (seq (matches (variable 0)) (builds (annotated (variable 0) (places_of [])))) 100 A1 ≡ done A (Some A1 ∷ []) 97 (edit [] A ∷ [])
+built_without_annotations : answer 1 (seq (matches (variable 0)) (builds (annotated (variable 0) (resolved_patterns_of [])))) 100 A1 ≡ done A (Some A1 ∷ []) 97 (edit [] A ∷ [])
 built_without_annotations = refl
 
 -- a variable keeps its annotations when it is built
@@ -151,16 +151,16 @@ binding_keeps_annotations : answer 1 (seq (matches (variable 0)) (builds (patter
 binding_keeps_annotations = refl
 
 -- `![x|x]` keeps the annotations of an element and drops those of a tail
-tail_drops_annotations : answer 1 (seq (matches (variable 0)) (builds (with_tail (places_of (variable 0 ∷ [])) (variable 0)))) 100 (both A)
+tail_drops_annotations : answer 1 (seq (matches (variable 0)) (builds (with_tail (resolved_patterns_of (variable 0 ∷ [])) (variable 0)))) 100 (both A)
     ≡ done (list_term (both A ∷ (A ∷ (A ∷ [])))) (Some (both A) ∷ []) 97 (edit [] (list_term (both A ∷ (A ∷ (A ∷ [])))) ∷ [])
 tail_drops_annotations = refl
 
 -- `?x@A(){1}` binds x to the term with its annotations; `?A(){}` matches none
-named_with_annotations : answer 1 (matches (at 0 (annotated (pattern 65 []) (places_of (number (pos 1) ∷ []))))) 100 A1
+named_with_annotations : answer 1 (matches (at 0 (annotated (pattern 65 []) (resolved_patterns_of (number (pos 1) ∷ []))))) 100 A1
     ≡ done A1 (Some A1 ∷ []) 99 []
 named_with_annotations = refl
 
-no_annotations : answer 0 (matches (annotated (pattern 65 []) (places_of []))) 100 A1 ≡ failed 99
+no_annotations : answer 0 (matches (annotated (pattern 65 []) (resolved_patterns_of []))) 100 A1 ≡ failed 99
 no_annotations = refl
 
 -- `!_` and `!x@A()` build nothing
@@ -252,23 +252,23 @@ tail_at_its_level : run_whole library 998 (body (tail_congruence (resolveds_of (
 tail_at_its_level = refl
 
 -- `wrap(|A())`, an argument that can't be built, one that doesn't fit, a definition there isn't
-term_argument : answer 0 (call 3 (resolveds_of []) (places_of (pattern 65 [] ∷ []))) 100 B ≡ done (G A) [] 98 (edit [] (G A) ∷ [])
+term_argument : answer 0 (call 3 (resolveds_of []) (resolved_patterns_of (pattern 65 [] ∷ []))) 100 B ≡ done (G A) [] 98 (edit [] (G A) ∷ [])
 term_argument = refl
 
-argument_not_built : answer 1 (call 3 (resolveds_of []) (places_of (variable 0 ∷ []))) 100 B ≡ failed 99
+argument_not_built : answer 1 (call 3 (resolveds_of []) (resolved_patterns_of (variable 0 ∷ []))) 100 B ≡ failed 99
 argument_not_built = refl
 
-argument_too_big : run_whole library 1000 (body (call 3 (resolveds_of []) (places_of (pattern 65 [] ∷ [])))) 100 B ≡ stopped big
+argument_too_big : run_whole library 1000 (body (call 3 (resolveds_of []) (resolved_patterns_of (pattern 65 [] ∷ [])))) 100 B ≡ stopped big
 argument_too_big = refl
 
 no_such_definition : answer 0 (call0 9) 100 B ≡ failed 99
 no_such_definition = refl
 
 -- `prim("gti",2,1)` at level 999: the answer doesn't fit
-answer_too_big : run_whole library 999 (body (prim 4 (places_of (number (pos 2) ∷ (number (pos 1) ∷ []))))) 100 B ≡ stopped big
+answer_too_big : run_whole library 999 (body (prim 4 (resolved_patterns_of (number (pos 2) ∷ (number (pos 1) ∷ []))))) 100 B ≡ stopped big
 answer_too_big = refl
 
-no_answer : answer 0 (prim 4 (places_of (number (pos 1) ∷ (number (pos 1) ∷ [])))) 100 B ≡ failed 99
+no_answer : answer 0 (prim 4 (resolved_patterns_of (number (pos 1) ∷ (number (pos 1) ∷ [])))) 100 B ≡ failed 99
 no_answer = refl
 
 -- a scope's variable is new inside and gone afterwards
@@ -287,7 +287,7 @@ other_number_of_children = refl
 other_head : answer 0 (congruence list (resolveds_of (id ∷ (id ∷ [])))) 100 (F A A) ≡ failed 99
 other_head = refl
 
-quoted_name : answer 0 (matches (compound (application (record { text = 65 ∷ []; is_quoted = true })) (places_of []))) 100 A ≡ failed 99
+quoted_name : answer 0 (matches (compound (application (record { text = 65 ∷ []; is_quoted = true })) (resolved_patterns_of []))) 100 A ≡ failed 99
 quoted_name = refl
 
 -- `[id|?x]` binds x to the list of the rest, which has no annotations
@@ -300,7 +300,7 @@ abbrev three : Tree
 three = with_annotations (list_term (B ∷ (B ∷ (B ∷ [])))) (integer_term (pos 1) ∷ [])
 
 rest_is_replaced : answer 0 (tail_congruence (resolveds_of (to_B ∷ []))
-    (builds (annotated (compound list (places_of (pattern 66 [] ∷ (pattern 66 [] ∷ [])))) (places_of (number (pos 2) ∷ []))))) 100 (both A)
+    (builds (annotated (compound list (resolved_patterns_of (pattern 66 [] ∷ (pattern 66 [] ∷ [])))) (resolved_patterns_of (number (pos 2) ∷ []))))) 100 (both A)
     ≡ done three [] 97 (edit (0 ∷ []) B ∷ (edit [] three ∷ []))
 rest_is_replaced = refl
 
@@ -309,7 +309,7 @@ child_1 : answer 0 (child 1 to_B) 100 (both A) ≡ done (both_with B A) [] 98 (e
 child_1 = refl
 
 -- the term parameter of a definition is not its caller's variable
-own_parameter : answer 1 (seq (matches (variable 0)) (call 3 (resolveds_of []) (places_of (pattern 66 [] ∷ [])))) 100 A
+own_parameter : answer 1 (seq (matches (variable 0)) (call 3 (resolveds_of []) (resolved_patterns_of (pattern 66 [] ∷ [])))) 100 A
     ≡ done (G B) (Some A ∷ []) 96 (edit [] (G B) ∷ [])
 own_parameter = refl
 
@@ -328,7 +328,7 @@ idle = record {
 }
 
 -- an argument is tested even if nothing is built from it
-idle_argument_too_big : run_whole idle 1000 (body (call 0 (resolveds_of []) (places_of (pattern 65 [] ∷ [])))) 100 B
+idle_argument_too_big : run_whole idle 1000 (body (call 0 (resolveds_of []) (resolved_patterns_of (pattern 65 [] ∷ [])))) 100 B
     ≡ stopped big
 idle_argument_too_big = refl
 
@@ -340,5 +340,5 @@ room_enough : run_whole (in_room 2 library) 0 (body (builds (pattern 71 (pattern
 room_enough = refl
 
 -- a primitive takes exactly its number of terms
-other_number_of_terms : run_whole idle 0 (body (prim 0 (places_of (number (pos 1) ∷ [])))) 100 B ≡ failed 99
+other_number_of_terms : run_whole idle 0 (body (prim 0 (resolved_patterns_of (number (pos 1) ∷ [])))) 100 B ≡ failed 99
 other_number_of_terms = refl

@@ -4,8 +4,8 @@ use Rattle.std.specs.declared.option.Option.{Option}
 use Rattle.term_core.specs.Tree.{Tree, children}
 use Rattle.term_core.specs.Size.{fits}
 use Rattle.term_paths.specs.Edits.{Edits}
-use Rattle.strategy_syntax.specs.Resolved.{Places, no_places, and_place, ResolvedStrategy, id, fail, matches, builds, seq, guard, test, scope, param, call, congruence, tail_congruence, all, one, some, child, rec, prim, resolved_list}
-use Rattle.strategy_meaning.specs.Matching.{Bindings, match_place, build_place, elements}
+use Rattle.strategy_syntax.specs.Resolved.{ResolvedPatterns, no_resolved_patterns, and_resolved_pattern, ResolvedStrategy, id, fail, matches, builds, seq, guard, test, scope, param, call, congruence, tail_congruence, all, one, some, child, rec, prim, resolved_list}
+use Rattle.strategy_meaning.specs.Matching.{Bindings, match_pattern, build_pattern, elements}
 use Rattle.strategy_meaning.specs.Scopes.{Scope, cells_in, stands_for, with_variables, with_name}
 use Rattle.strategy_meaning.specs.Answer.{Answer, done, failed, stopped, spent, big, Act, either, if_done, with_edits, and_then}
 use Rattle.strategy_meaning.specs.Laws.{in_room}
@@ -110,11 +110,11 @@ module _ (S : ℕ → ℕ → Type 0) (Q P : Answer → Type 0) (keeps : Keeps Q
     by u true is = rw (roomier.fit l u is) (h u)
     by u false is = roomier.over l u (go' u) is
 
-  built_all-related : (ps : Places) (E : List ℕ) (B : Bindings) (l b c : ℕ) (go go' : List Tree → Answer) → S b c
+  built_all-related : (ps : ResolvedPatterns) (E : List ℕ) (B : Bindings) (l b c : ℕ) (go go' : List Tree → Answer) → S b c
       → ((us : List Tree) → R (go us) (go' us)) → R (built_all room ps E B l b go) (built_all more ps E B l c go')
-  built_all-related no_places E B l b c go go' s h = h []
-  built_all-related (and_place p ps) E B l b c go go' s h =
-      built-related (build_place p E B) l b c _ _ s (λ u. built_all-related ps E B l b c _ _ s (λ us. h (u ∷ us)))
+  built_all-related no_resolved_patterns E B l b c go go' s h = h []
+  built_all-related (and_resolved_pattern p ps) E B l b c go go' s h =
+      built-related (build_pattern p E B) l b c _ _ s (λ u. built_all-related ps E B l b c _ _ s (λ us. h (u ∷ us)))
 
   opened-related : (part other : Evaluation) (E : Scope) (new : Bindings) (l : ℕ) (x : ResolvedStrategy) → Alike part other → ActsAlike (opened part E new l x) (opened other E new l x)
   opened-related part other E new l x h b c B t s =
@@ -124,9 +124,9 @@ module _ (S : ℕ → ℕ → Type 0) (Q P : Answer → Type 0) (keeps : Keeps Q
   form-related W part other h E l id b c B t s = (c, refl, s)
   form-related W part other h E l fail b c B t s = (c, refl, s)
   form-related W part other h E l (matches p) b c B t s =
-      some-related (match_place p t (cells_in E) B) b c _ _ s (λ B1. (c, refl, s))
+      some-related (match_pattern p t (cells_in E) B) b c _ _ s (λ B1. (c, refl, s))
   form-related W part other h E l (builds p) b c B t s =
-      built-related (build_place p (cells_in E) B) l b c _ _ s (λ u. (c, refl, s))
+      built-related (build_pattern p (cells_in E) B) l b c _ _ s (λ u. (c, refl, s))
   form-related W part other h E l (seq s1 s2) b c B t s =
       and_then-related _ _ _ _ (h E l s1 b c B t s) (h E l s2)
   form-related W part other h E l (guard s1 s2 s3) b c B t s =

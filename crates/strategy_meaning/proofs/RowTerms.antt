@@ -2,7 +2,7 @@
 use Rattle.std.specs.Prelude.{ℕ, pos, List, [], ◌∷◌, false}
 use Rattle.term_core.specs.Tree.{Symbol, application, Tree, integer_term, application_term, list_term, with_annotations}
 use Rattle.term_paths.specs.Edits.{Edit}
-use Rattle.strategy_syntax.specs.Resolved.{Place, compound, places_of, ResolvedStrategy, id, builds, guard, call, congruence, resolveds_of}
+use Rattle.strategy_syntax.specs.Resolved.{ResolvedPattern, compound, resolved_patterns_of, ResolvedStrategy, id, builds, guard, call, congruence, resolveds_of}
 use Rattle.strategy_syntax.specs.declared.resolved.Resolved.{Resolved}
 
 abbrev pub edit : List ℕ → Tree → Edit
@@ -37,8 +37,8 @@ both_with t u = with_annotations (list_term (t ∷ (u ∷ []))) (integer_term (p
 abbrev pub both : Tree → Tree
 both t = both_with t t
 
-abbrev pub pattern : ℕ → List Place → Place
-pattern n ps = compound (application (word n)) (places_of ps)
+abbrev pub pattern : ℕ → List ResolvedPattern → ResolvedPattern
+pattern n ps = compound (application (word n)) (resolved_patterns_of ps)
 
 abbrev pub to_A : ResolvedStrategy
 to_A = builds (pattern 65 [])
@@ -55,10 +55,10 @@ or_else s1 s2 = guard s1 id s2
 
 -- a call with one strategy, and one with neither strategies nor terms
 abbrev pub call1 : ℕ → ResolvedStrategy → ResolvedStrategy
-call1 f s = call f (resolveds_of (s ∷ [])) (places_of [])
+call1 f s = call f (resolveds_of (s ∷ [])) (resolved_patterns_of [])
 
 abbrev pub call0 : ℕ → ResolvedStrategy
-call0 f = call f (resolveds_of []) (places_of [])
+call0 f = call f (resolveds_of []) (resolved_patterns_of [])
 
 -- with this many free variables
 abbrev pub with_free : ℕ → ResolvedStrategy → Resolved

@@ -7,7 +7,7 @@ use Rattle.std.specs.Prelude.{ℕ, ℤ, Bool, false, cond, List, [], ◌∷◌, 
 use Rattle.std.specs.declared.option.Option.{Option}
 use Rattle.std.specs.Ordering.{int_eq}
 use Rattle.term_core.specs.Tree.{Head, application, list, tuple, Tree, integer, branch, none, to_list, of_list, children, annotations, with_annotations, bare, integer_term, list_term}
-use Rattle.strategy_syntax.specs.Resolved.{Place, wildcard, variable, at, number, compound, with_tail, annotated, Places, no_places, and_place, place_list}
+use Rattle.strategy_syntax.specs.Resolved.{ResolvedPattern, wildcard, variable, at, number, compound, with_tail, annotated, ResolvedPatterns, no_resolved_patterns, and_resolved_pattern, resolved_pattern_list}
 use Rattle.strategy_meaning.specs.Same.{same_head, same_tree}
 
 -- the term in each cell, if there is one
@@ -47,27 +47,27 @@ bind E x t B = option_and_then (λ i. put_or_same B i t (slice_get B i)) (slice_
 -- annotations: the rest of it matches the term without them. A tail matches the list of the rest,
 -- which has none.
 abbrev mutual
-  pub match_place : Place → Tree → List ℕ → Bindings → Option Bindings
-  match_place wildcard t E B = Some B
-  match_place (variable x) t E B = bind E x t B
-  match_place (at x p) t E B = option_and_then (λ B1. match_place p t E B1) (bind E x t B)
-  match_place (number z) t E B = cond (is_integer z t) (Some B) None
-  match_place (compound h ps) t E B =
-      cond (is_headed h t) (match_places ps (children t) E B) None
-  match_place (with_tail ps p) t E B =
+  pub match_pattern : ResolvedPattern → Tree → List ℕ → Bindings → Option Bindings
+  match_pattern wildcard t E B = Some B
+  match_pattern (variable x) t E B = bind E x t B
+  match_pattern (at x p) t E B = option_and_then (λ B1. match_pattern p t E B1) (bind E x t B)
+  match_pattern (number z) t E B = cond (is_integer z t) (Some B) None
+  match_pattern (compound h ps) t E B =
+      cond (is_headed h t) (match_patterns ps (children t) E B) None
+  match_pattern (with_tail ps p) t E B =
       option_and_then (λ us. option_and_then
-      (λ B1. match_place p (list_term (drop (length (place_list ps)) us)) E B1)
-      (match_places ps (take (length (place_list ps)) us) E B)) (elements t)
-  match_place (annotated p ps) t E B =
-      option_and_then (λ B1. match_places ps (annotations t) E B1) (match_place p (bare t) E B)
+      (λ B1. match_pattern p (list_term (drop (length (resolved_pattern_list ps)) us)) E B1)
+      (match_patterns ps (take (length (resolved_pattern_list ps)) us) E B)) (elements t)
+  match_pattern (annotated p ps) t E B =
+      option_and_then (λ B1. match_patterns ps (annotations t) E B1) (match_pattern p (bare t) E B)
 
   -- patterns and terms in equal number, from left to right
-  pub match_places : Places → List Tree → List ℕ → Bindings → Option Bindings
-  match_places no_places [] E B = Some B
-  match_places no_places (t ∷ ts) E B = None
-  match_places (and_place p ps) [] E B = None
-  match_places (and_place p ps) (t ∷ ts) E B =
-      option_and_then (λ B1. match_places ps ts E B1) (match_place p t E B)
+  pub match_patterns : ResolvedPatterns → List Tree → List ℕ → Bindings → Option Bindings
+  match_patterns no_resolved_patterns [] E B = Some B
+  match_patterns no_resolved_patterns (t ∷ ts) E B = None
+  match_patterns (and_resolved_pattern p ps) [] E B = None
+  match_patterns (and_resolved_pattern p ps) (t ∷ ts) E B =
+      option_and_then (λ B1. match_patterns ps ts E B1) (match_pattern p t E B)
 
 -- ---- building
 
@@ -78,21 +78,21 @@ bound_to E x B = option_and_then (λ i. option_and_then (λ o. o) (slice_get B i
 -- The instance of a pattern, or nothing if a variable has no binding, a tail is no list, or the
 -- pattern contains `_` or `x@p`. Annotations are those of the pattern and those of bindings.
 abbrev mutual
-  pub build_place : Place → List ℕ → Bindings → Option Tree
-  build_place wildcard E B = None
-  build_place (variable x) E B = bound_to E x B
-  build_place (at x p) E B = None
-  build_place (number z) E B = Some (integer_term z)
-  build_place (compound h ps) E B =
-      option_map (λ us. branch h (of_list us) none) (build_places ps E B)
-  build_place (with_tail ps p) E B =
+  pub build_pattern : ResolvedPattern → List ℕ → Bindings → Option Tree
+  build_pattern wildcard E B = None
+  build_pattern (variable x) E B = bound_to E x B
+  build_pattern (at x p) E B = None
+  build_pattern (number z) E B = Some (integer_term z)
+  build_pattern (compound h ps) E B =
+      option_map (λ us. branch h (of_list us) none) (build_patterns ps E B)
+  build_pattern (with_tail ps p) E B =
       option_and_then (λ us. option_map (λ vs. list_term (us ++ vs))
-      (option_and_then elements (build_place p E B))) (build_places ps E B)
-  build_place (annotated p ps) E B =
-      option_and_then (λ u. option_map (with_annotations u) (build_places ps E B))
-      (build_place p E B)
+      (option_and_then elements (build_pattern p E B))) (build_patterns ps E B)
+  build_pattern (annotated p ps) E B =
+      option_and_then (λ u. option_map (with_annotations u) (build_patterns ps E B))
+      (build_pattern p E B)
 
-  pub build_places : Places → List ℕ → Bindings → Option (List Tree)
-  build_places no_places E B = Some []
-  build_places (and_place p ps) E B =
-      option_and_then (λ u. option_map (λ us. u ∷ us) (build_places ps E B)) (build_place p E B)
+  pub build_patterns : ResolvedPatterns → List ℕ → Bindings → Option (List Tree)
+  build_patterns no_resolved_patterns E B = Some []
+  build_patterns (and_resolved_pattern p ps) E B =
+      option_and_then (λ u. option_map (λ us. u ∷ us) (build_patterns ps E B)) (build_pattern p E B)

@@ -18,9 +18,9 @@ use Rattle.term_core.specs.Tree.{Head, Tree, children, with_children, with_child
 use Rattle.term_core.specs.Size.{fits}
 use Rattle.term_paths.specs.Edits.{prefixed}
 use Rattle.prim_core.specs.Signature.{Signature}
-use Rattle.strategy_syntax.specs.Resolved.{Places, no_places, and_place, ResolvedStrategy, id, fail, matches, builds, seq, guard, test, scope, param, call, congruence, tail_congruence, all, one, some, child, rec, prim, ResolvedStrategies, resolved_list}
+use Rattle.strategy_syntax.specs.Resolved.{ResolvedPatterns, no_resolved_patterns, and_resolved_pattern, ResolvedStrategy, id, fail, matches, builds, seq, guard, test, scope, param, call, congruence, tail_congruence, all, one, some, child, rec, prim, ResolvedStrategies, resolved_list}
 use Rattle.strategy_syntax.specs.declared.resolved.Resolved.{Resolved}
-use Rattle.strategy_meaning.specs.Matching.{Bindings, match_place, build_place, is_headed, elements}
+use Rattle.strategy_meaning.specs.Matching.{Bindings, match_pattern, build_pattern, is_headed, elements}
 use Rattle.strategy_meaning.specs.Scopes.{Scope, inside, no_closures, cells_in, stands_for, with_variables, with_name, numbers_from, arguments}
 use Rattle.strategy_meaning.specs.Answer.{Answer, done, failed, stopped, spent, big, Act, either, if_done, with_edits, and_then, at_root}
 
@@ -108,10 +108,10 @@ abbrev pub built : ℕ → Option Tree → ℕ → ℕ → (Tree → Answer) →
 built room o l c go = with_some o c (λ u. cond (fits room l u) (go u) (stopped big))
 
 -- continues with the term arguments of a call or a primitive, built one by one
-abbrev pub built_all : ℕ → Places → List ℕ → Bindings → ℕ → ℕ → (List Tree → Answer) → Answer
-built_all room no_places E B l c go = go []
-built_all room (and_place p ps) E B l c go =
-    built room (build_place p E B) l c (λ u. built_all room ps E B l c (λ us. go (u ∷ us)))
+abbrev pub built_all : ℕ → ResolvedPatterns → List ℕ → Bindings → ℕ → ℕ → (List Tree → Answer) → Answer
+built_all room no_resolved_patterns E B l c go = go []
+built_all room (and_resolved_pattern p ps) E B l c go =
+    built room (build_pattern p E B) l c (λ u. built_all room ps E B l c (λ us. go (u ∷ us)))
 
 -- the answer of the primitive with this number; nothing if it takes another number of terms
 abbrev pub primitive_answer : World → ℕ → List Tree → Option Tree
@@ -142,9 +142,9 @@ abbrev pub form : World → Evaluation → Evaluation
 form W part E l id c B t = done t B c []
 form W part E l fail c B t = failed c
 form W part E l (matches p) c B t =
-    with_some (match_place p t (cells_in E) B) c (λ B1. done t B1 c [])
+    with_some (match_pattern p t (cells_in E) B) c (λ B1. done t B1 c [])
 form W part E l (builds p) c B t =
-    built W.room (build_place p (cells_in E) B) l c (λ u. done u B c (at_root u))
+    built W.room (build_pattern p (cells_in E) B) l c (λ u. done u B c (at_root u))
 form W part E l (seq s1 s2) c B t = and_then (part E l s1 c B t) (part E l s2)
 form W part E l (guard s1 s2 s3) c B t =
     either (part E l s1 c B t) (λ t1 B1 b e. with_edits e (part E l s2 b B1 t1))

@@ -6,7 +6,7 @@ pub mod Lists
 pub mod Heads
 pub mod PatternView
 pub mod StrategyView
-pub mod PlaceView
+pub mod ResolvedPatternView
 pub mod ResolvedView
 pub mod Renumbering
 pub mod inside

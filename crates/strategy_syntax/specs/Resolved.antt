@@ -8,40 +8,40 @@ use Rattle.term_core.specs.Tree.{Head}
 
 -- A pattern, whose variables are numbers.
 mutual
-  pub data Place : Type 0 where
-    wildcard : Place
-    variable : ℕ → Place
-    at : ℕ → Place → Place
-    number : ℤ → Place
-    compound : Head → Places → Place
-    with_tail : Places → Place → Place
-    annotated : Place → Places → Place
+  pub data ResolvedPattern : Type 0 where
+    wildcard : ResolvedPattern
+    variable : ℕ → ResolvedPattern
+    at : ℕ → ResolvedPattern → ResolvedPattern
+    number : ℤ → ResolvedPattern
+    compound : Head → ResolvedPatterns → ResolvedPattern
+    with_tail : ResolvedPatterns → ResolvedPattern → ResolvedPattern
+    annotated : ResolvedPattern → ResolvedPatterns → ResolvedPattern
 
-  pub data Places : Type 0 where
-    no_places : Places
-    and_place : Place → Places → Places
+  pub data ResolvedPatterns : Type 0 where
+    no_resolved_patterns : ResolvedPatterns
+    and_resolved_pattern : ResolvedPattern → ResolvedPatterns → ResolvedPatterns
 
-abbrev pub place_list : Places → List Place
-place_list no_places = []
-place_list (and_place p ps) = p ∷ place_list ps
+abbrev pub resolved_pattern_list : ResolvedPatterns → List ResolvedPattern
+resolved_pattern_list no_resolved_patterns = []
+resolved_pattern_list (and_resolved_pattern p ps) = p ∷ resolved_pattern_list ps
 
-abbrev pub places_of : List Place → Places
-places_of [] = no_places
-places_of (p ∷ ps) = and_place p (places_of ps)
+abbrev pub resolved_patterns_of : List ResolvedPattern → ResolvedPatterns
+resolved_patterns_of [] = no_resolved_patterns
+resolved_patterns_of (p ∷ ps) = and_resolved_pattern p (resolved_patterns_of ps)
 
 mutual
   pub data ResolvedStrategy : Type 0 where
     id : ResolvedStrategy
     fail : ResolvedStrategy
-    matches : Place → ResolvedStrategy
-    builds : Place → ResolvedStrategy
+    matches : ResolvedPattern → ResolvedStrategy
+    builds : ResolvedPattern → ResolvedStrategy
     seq : ResolvedStrategy → ResolvedStrategy → ResolvedStrategy
     guard : ResolvedStrategy → ResolvedStrategy → ResolvedStrategy → ResolvedStrategy
     test : ResolvedStrategy → ResolvedStrategy
     scope : ℕ → ResolvedStrategy → ResolvedStrategy  -- new variables, this many
     param : ℕ → ResolvedStrategy  -- a strategy parameter or a `rec` name
     -- a definition, with strategies and patterns for its parameters
-    call : ℕ → ResolvedStrategies → Places → ResolvedStrategy
+    call : ℕ → ResolvedStrategies → ResolvedPatterns → ResolvedStrategy
     congruence : Head → ResolvedStrategies → ResolvedStrategy
     tail_congruence : ResolvedStrategies → ResolvedStrategy → ResolvedStrategy
     all : ResolvedStrategy → ResolvedStrategy
@@ -49,7 +49,7 @@ mutual
     some : ResolvedStrategy → ResolvedStrategy
     child : ℕ → ResolvedStrategy → ResolvedStrategy  -- child i, counted from 1
     rec : ResolvedStrategy → ResolvedStrategy
-    prim : ℕ → Places → ResolvedStrategy
+    prim : ℕ → ResolvedPatterns → ResolvedStrategy
 
   pub data ResolvedStrategies : Type 0 where
     no_strategies : ResolvedStrategies

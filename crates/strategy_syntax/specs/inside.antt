@@ -2,8 +2,8 @@ pub mod Codes
 pub mod ModuleCodes
 pub mod PatternDepth
 pub mod PatternFalls
-pub mod PlaceDepth
-pub mod PlaceFalls
+pub mod ResolvedPatternDepth
+pub mod ResolvedPatternFalls
 pub mod ResolvedCodes
 pub mod ResolvedDepth
 pub mod ResolvedFalls

@@ -6,13 +6,13 @@ mod head;
 mod module;
 mod names;
 mod pattern;
-mod place;
 mod resolved;
+mod resolved_pattern;
 mod strategy;
 
 pub use head::Head;
 pub use module::{Constructor, Definition, Module};
 pub use pattern::{Pattern, PatternForm};
-pub use place::{Place, PlaceForm};
 pub use resolved::{Resolved, ResolvedForm, ResolvedStrategy};
+pub use resolved_pattern::{ResolvedPattern, ResolvedPatternForm};
 pub use strategy::{Strategy, StrategyForm};

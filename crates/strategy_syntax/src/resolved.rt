@@ -5,7 +5,7 @@ ghost use Rattle.strategy_syntax.specs.Resolved.{resolveds_of};
 ghost use Rattle.strategy_syntax.specs.ResolvedView.{resolved_of};
 ghost use Rattle.strategy_syntax.specs.Renumbering.{new_number, renumbered, all_renumbered};
 
-use crate::{Head, Place};
+use crate::{Head, ResolvedPattern};
 use std::marker::Model;
 
 /// A whole resolved strategy: the body of a definition, or a strategy to apply.
@@ -35,9 +35,9 @@ pub enum ResolvedForm {
     /// `fail`.
     Fail,
     /// `?p`, which matches the term.
-    Match(Place),
+    Match(ResolvedPattern),
     /// `!p`, which builds a term.
-    Build(Place),
+    Build(ResolvedPattern),
     /// `s1; s2`.
     Seq(Box<(ResolvedStrategy, ResolvedStrategy)>),
     /// `s1 < s2 + s3`: s2 if s1 succeeds, else s3.
@@ -50,7 +50,7 @@ pub enum ResolvedForm {
     Param(usize),
     /// A call of a definition, by its number in the program, with strategies and patterns for its
     /// parameters.
-    Call(usize, Vec<ResolvedStrategy>, Vec<Place>),
+    Call(usize, Vec<ResolvedStrategy>, Vec<ResolvedPattern>),
     /// A congruence: a strategy for each child.
     Congruence(Head, Vec<ResolvedStrategy>),
     /// `[s1,..,sn|s]`: a strategy for each of the first elements, and one for the list of the rest.
@@ -66,7 +66,7 @@ pub enum ResolvedForm {
     /// `rec x(s)`: s, in which the new name stands for the whole strategy.
     Rec(Box<ResolvedStrategy>),
     /// A primitive, by its number, with patterns for its arguments.
-    Prim(usize, Vec<Place>),
+    Prim(usize, Vec<ResolvedPattern>),
 }
 
 impl Model for ResolvedStrategy {

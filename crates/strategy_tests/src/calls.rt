@@ -1,11 +1,14 @@
 //! The calls that run a strategy on a term: what each leaves and lists.
 
+ghost use Rattle.std.specs.Prelude.{◌≡◌};
+ghost use Rattle.term_core.specs.declared.TheConstants.{MAX_SIZE};
+
 use change_log::{Entry, Log, Store};
 use prim_core::{Meaning, Primitives};
 use std::alloc::Global;
 use std::test::Fail;
 use strategy_check::Program;
-use strategy_run::{Ended, Outcome, Planned, apply, evaluate, is_low_enough, plan_patch};
+use strategy_run::{Ended, Host, Outcome, Planned, apply, evaluate, is_low_enough, plan_patch};
 use strategy_syntax::Resolved;
 use term_core::{Label, MAX_HEIGHT, MAX_SIZE, NoMemory, Term};
 use term_paths::Path;
@@ -90,6 +93,17 @@ fn evaluates<M: Meaning>(alloc: Global, primitives: &Primitives<M>, case: &Case<
     }
 }
 
+// The program of a case, with room by default.
+fn host_of<'a, M: Meaning>(case: &Case<'a>, primitives: &'a Primitives<M>) -> Host<'a, M>
+    ensures { result.room ≡ MAX_SIZE }
+{
+    Host {
+        definitions: case.program.definitions(),
+        primitives,
+        room: MAX_SIZE,
+    }
+}
+
 // The patch leads to the term afterwards, and back again.
 fn patches<M: Meaning>(
     alloc: Global,
@@ -101,16 +115,8 @@ fn patches<M: Meaning>(
     if term.height() > MAX_HEIGHT - 1 {
         return Ok(false);
     }
-    match plan_patch(
-        alloc,
-        case.program,
-        primitives,
-        term,
-        1,
-        MAX_SIZE,
-        case.strategy,
-        case.steps,
-    ) {
+    let host = host_of(case, primitives);
+    match plan_patch(alloc, &host, term, 1, case.strategy, case.steps) {
         Ok(Ended::Done(planned)) => {
             let Planned { mut patch, taken } = planned;
             patch.exchange(&mut copy);
@@ -211,16 +217,8 @@ fn make_plan<M: Meaning>(
     if term.height() > room {
         return Ok(None);
     }
-    match plan_patch(
-        alloc,
-        case.program,
-        primitives,
-        term,
-        level,
-        MAX_SIZE,
-        case.strategy,
-        case.steps,
-    )? {
+    let host = host_of(case, primitives);
+    match plan_patch(alloc, &host, term, level, case.strategy, case.steps)? {
         Ended::Done(planned) => {
             let plan = planned.patch.into_plan(alloc, slot, path.parts())?;
             log.make(store, plan)?;

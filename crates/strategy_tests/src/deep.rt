@@ -3,8 +3,8 @@
 use std::alloc::Global;
 use std::test::Fail;
 use strategy_syntax::{
-    Head, Pattern, PatternForm, Place, PlaceForm, ResolvedForm, ResolvedStrategy, Strategy,
-    StrategyForm,
+    Head, Pattern, PatternForm, ResolvedForm, ResolvedPattern, ResolvedPatternForm,
+    ResolvedStrategy, Strategy, StrategyForm,
 };
 use term_core::NoMemory;
 
@@ -81,11 +81,11 @@ fn resolved_is_made(alloc: Global) -> Result<bool, NoMemory> {
 }
 
 fn place_is_made(alloc: Global) -> Result<bool, NoMemory> {
-    let mut place = Place::new(PlaceForm::Variable(0));
+    let mut place = ResolvedPattern::new(ResolvedPatternForm::Variable(0));
     for _ in 0..DEPTH {
-        place = Place::new(PlaceForm::At(0, Box::new(alloc, place)?));
+        place = ResolvedPattern::new(ResolvedPatternForm::At(0, Box::new(alloc, place)?));
     }
-    Ok(matches!(place.form(), PlaceForm::At(0, _)))
+    Ok(matches!(place.form(), ResolvedPatternForm::At(0, _)))
 }
 
 #[test]

@@ -5,11 +5,13 @@ use crate::rows::checked;
 use prim_core::{NoPrimitives, Primitives};
 use std::alloc::Global;
 use std::test::Fail;
-use strategy_syntax::{Place, PlaceForm, Resolved, ResolvedForm, ResolvedStrategy};
+use strategy_syntax::{
+    Resolved, ResolvedForm, ResolvedPattern, ResolvedPatternForm, ResolvedStrategy,
+};
 use term_core::{NoMemory, Term};
 
-fn place() -> Place {
-    Place::new(PlaceForm::Variable(1))
+fn place() -> ResolvedPattern {
+    ResolvedPattern::new(ResolvedPatternForm::Variable(1))
 }
 
 // In a box, whose drop is a call.

@@ -8,19 +8,19 @@ use Rattle.term_core.specs.Tree.{Head, application, list, tuple, Tree, children,
 use Rattle.term_core.specs.Kind.{made_of}
 use Rattle.term_core.specs.declared.kind.Kind.{Kind}
 use Rattle.term_core.specs.declared.kind.Kind.TheVariants.{Integer, Application as KindApplication, List as KindList, Tuple as KindTuple}
-use Rattle.strategy_syntax.specs.Resolved.{Place, compound, with_tail, place_list, places_of}
+use Rattle.strategy_syntax.specs.Resolved.{ResolvedPattern, compound, with_tail, resolved_pattern_list, resolved_patterns_of}
 use Rattle.strategy_syntax.specs.Heads.{head_at}
-use Rattle.strategy_syntax.specs.inside.PlaceDepth.{place_depth, places_depth}
+use Rattle.strategy_syntax.specs.inside.ResolvedPatternDepth.{resolved_pattern_depth, resolved_patterns_depth}
 use Rattle.strategy_meaning.specs.Same.{same_head, same_tree}
 use Rattle.strategy_meaning.proofs.SameLemmas.{head-eq, head-self, same_is_equal}
-use Rattle.strategy_meaning.specs.Matching.{Bindings, put_or_same, bind, is_headed, elements, match_place, match_places}
+use Rattle.strategy_meaning.specs.Matching.{Bindings, put_or_same, bind, is_headed, elements, match_pattern, match_patterns}
 
 -- ---- depths
 
-pub depth_read : (ps : List Place) (i : ℕ) (p : Place) → i < length ps → p ≡ get_or ps i p
-    → place_depth p ≤ places_depth (places_of ps)
+pub depth_read : (ps : List ResolvedPattern) (i : ℕ) (p : ResolvedPattern) → i < length ps → p ≡ get_or ps i p
+    → resolved_pattern_depth p ≤ resolved_patterns_depth (resolved_patterns_of ps)
 depth_read [] i p h e = absurd (omega (arith, h))
-depth_read (q ∷ ps) zero p h e = omega (arith, ap place_depth e)
+depth_read (q ∷ ps) zero p h e = omega (arith, ap resolved_pattern_depth e)
 depth_read (q ∷ ps) (suc i) p h e = omega (arith, depth_read ps i p (omega (arith, h)) e)
 
 -- ---- tests
@@ -90,61 +90,61 @@ is_of_head k h t us ns r e f = ap (is_headed h) e ∙ headed k h us ns r f
 
 -- ---- one pattern with each term
 
-pub place_list-places_of : (ps : List Place) → place_list (places_of ps) ≡ ps
-place_list-places_of [] = refl
-place_list-places_of (p ∷ ps) = ap (λ l. p ∷ l) (place_list-places_of ps)
+pub resolved_pattern_list-of : (ps : List ResolvedPattern) → resolved_pattern_list (resolved_patterns_of ps) ≡ ps
+resolved_pattern_list-of [] = refl
+resolved_pattern_list-of (p ∷ ps) = ap (λ l. p ∷ l) (resolved_pattern_list-of ps)
 
-pub counts_differ : (ps : List Place) (ts : List Tree) (E : List ℕ) (B : Bindings) → length ts ≢ length ps
-    → match_places (places_of ps) ts E B ≡ None
+pub counts_differ : (ps : List ResolvedPattern) (ts : List Tree) (E : List ℕ) (B : Bindings) → length ts ≢ length ps
+    → match_patterns (resolved_patterns_of ps) ts E B ≡ None
 counts_differ [] [] E B h = absurd (h refl)
 counts_differ [] (t ∷ ts) E B h = refl
 counts_differ (p ∷ ps) [] E B h = refl
 counts_differ (p ∷ ps) (t ∷ ts) E B h =
-    elim (match_place p t E B) as (λ o. option_and_then (λ B1. match_places (places_of ps) ts E B1) o ≡ None) [
+    elim (match_pattern p t E B) as (λ o. option_and_then (λ B1. match_patterns (resolved_patterns_of ps) ts E B1) o ≡ None) [
       | None ↦ refl
       | Some B1 ↦ counts_differ ps ts E B1 (λ e. h (ap suc e))
     ]
 
 -- the patterns from i on, with the terms from i on
-abbrev pub matched_from : List Place → List Tree → List ℕ → ℕ → Bindings → Option Bindings
-matched_from ps ts E i B = match_places (places_of (drop i ps)) (drop i ts) E B
+abbrev pub matched_from : List ResolvedPattern → List Tree → List ℕ → ℕ → Bindings → Option Bindings
+matched_from ps ts E i B = match_patterns (resolved_patterns_of (drop i ps)) (drop i ts) E B
 
-matched_more : (ps : List Place) (ts : List Tree) (E : List ℕ) (i : ℕ) (B : Bindings) (p : Place) (t : Tree)
+matched_more : (ps : List ResolvedPattern) (ts : List Tree) (E : List ℕ) (i : ℕ) (B : Bindings) (p : ResolvedPattern) (t : Tree)
     → i < length ps → p ≡ get_or ps i p → slice_get ts i ≡ Some t
-    → matched_from ps ts E i B ≡ option_and_then (λ B1. matched_from ps ts E (i + 1) B1) (match_place p t E B)
+    → matched_from ps ts E i B ≡ option_and_then (λ B1. matched_from ps ts E (i + 1) B1) (match_pattern p t E B)
 matched_more ps ts E i B p t h e f =
-    (λ k. match_places (places_of (drop_more ps i p h k)) (drop_more ts i t (slice_get_within ts i t f) k) E B)
-    ∙ (λ k. option_and_then (λ B1. matched_from ps ts E (i + 1) B1) (match_place (sym e k) (get_or_from_slice_get ts i t t f k) E B))
+    (λ k. match_patterns (resolved_patterns_of (drop_more ps i p h k)) (drop_more ts i t (slice_get_within ts i t f) k) E B)
+    ∙ (λ k. option_and_then (λ B1. matched_from ps ts E (i + 1) B1) (match_pattern (sym e k) (get_or_from_slice_get ts i t t f k) E B))
 
-pub matched_next : (ps : List Place) (ts : List Tree) (E : List ℕ) (whole : Option Bindings) (i : ℕ) (B C : Bindings)
-    (p : Place) (t : Tree) (found : Bool) → i < length ps → p ≡ get_or ps i p → slice_get ts i ≡ Some t
-    → matched_from ps ts E i B ≡ whole → match_place p t E B ≡ cond found (Some C) None → found ≡ true
+pub matched_next : (ps : List ResolvedPattern) (ts : List Tree) (E : List ℕ) (whole : Option Bindings) (i : ℕ) (B C : Bindings)
+    (p : ResolvedPattern) (t : Tree) (found : Bool) → i < length ps → p ≡ get_or ps i p → slice_get ts i ≡ Some t
+    → matched_from ps ts E i B ≡ whole → match_pattern p t E B ≡ cond found (Some C) None → found ≡ true
     → matched_from ps ts E (i + 1) C ≡ whole
 matched_next ps ts E whole i B C p t found h e f w m y =
-    sym (yes_then (match_place p t E B) (λ B1. matched_from ps ts E (i + 1) B1) C found m y)
+    sym (yes_then (match_pattern p t E B) (λ B1. matched_from ps ts E (i + 1) B1) C found m y)
     ∙ sym (matched_more ps ts E i B p t h e f) ∙ w
 
-pub matched_no : (ps : List Place) (ts : List Tree) (E : List ℕ) (whole : Option Bindings) (i : ℕ) (B C : Bindings)
-    (p : Place) (t : Tree) (found : Bool) → i < length ps → p ≡ get_or ps i p → slice_get ts i ≡ Some t
-    → matched_from ps ts E i B ≡ whole → match_place p t E B ≡ cond found (Some C) None → found ≡ false → whole ≡ None
+pub matched_no : (ps : List ResolvedPattern) (ts : List Tree) (E : List ℕ) (whole : Option Bindings) (i : ℕ) (B C : Bindings)
+    (p : ResolvedPattern) (t : Tree) (found : Bool) → i < length ps → p ≡ get_or ps i p → slice_get ts i ≡ Some t
+    → matched_from ps ts E i B ≡ whole → match_pattern p t E B ≡ cond found (Some C) None → found ≡ false → whole ≡ None
 matched_no ps ts E whole i B C p t found h e f w m y =
     sym w ∙ matched_more ps ts E i B p t h e f
-    ∙ no_then (match_place p t E B) (λ B1. matched_from ps ts E (i + 1) B1) C found m y
+    ∙ no_then (match_pattern p t E B) (λ B1. matched_from ps ts E (i + 1) B1) C found m y
 
 slice_get_none : (ts : List Tree) (i : ℕ) → slice_get ts i ≡ None → length ts ≤ i
 slice_get_none [] i e = omega arith
 slice_get_none (t ∷ ts) zero e = absurd (none-some t (sym e))
 slice_get_none (t ∷ ts) (suc i) e = omega (arith, slice_get_none ts i e)
 
-pub matched_missing : (ps : List Place) (ts : List Tree) (E : List ℕ) (whole : Option Bindings) (i : ℕ) (B : Bindings)
-    (p : Place) → i < length ps → slice_get ts i ≡ None → matched_from ps ts E i B ≡ whole → whole ≡ None
+pub matched_missing : (ps : List ResolvedPattern) (ts : List Tree) (E : List ℕ) (whole : Option Bindings) (i : ℕ) (B : Bindings)
+    (p : ResolvedPattern) → i < length ps → slice_get ts i ≡ None → matched_from ps ts E i B ≡ whole → whole ≡ None
 matched_missing ps ts E whole i B p h f w =
-    sym w ∙ (λ k. match_places (places_of (drop_more ps i p h k)) (drop_all i ts (slice_get_none ts i f) k) E B)
+    sym w ∙ (λ k. match_patterns (resolved_patterns_of (drop_more ps i p h k)) (drop_all i ts (slice_get_none ts i f) k) E B)
 
-pub matched_all : (ps : List Place) (ts : List Tree) (E : List ℕ) (whole : Option Bindings) (i : ℕ) (B : Bindings)
+pub matched_all : (ps : List ResolvedPattern) (ts : List Tree) (E : List ℕ) (whole : Option Bindings) (i : ℕ) (B : Bindings)
     → length ps ≤ i → length ts ≤ i → matched_from ps ts E i B ≡ whole → whole ≡ Some B
 matched_all ps ts E whole i B h k w =
-    sym w ∙ (λ j. match_places (places_of (drop_all i ps h j)) (drop_all i ts k j) E B)
+    sym w ∙ (λ j. match_patterns (resolved_patterns_of (drop_all i ps h j)) (drop_all i ts k j) E B)
 
 -- for the first terms only
 pub slice_get_front : (ts : List Tree) (n i : ℕ) → i < n → slice_get (take n ts) i ≡ slice_get ts i
@@ -155,45 +155,45 @@ slice_get_front (t ∷ ts) (suc n) (suc i) h = slice_get_front ts n i (omega (ar
 
 -- ---- forms
 
-pub compound_headless : (h : Head) (ps : List Place) (t : Tree) (E : List ℕ) (B : Bindings) → is_headed h t ≡ false
-    → match_place (compound h (places_of ps)) t E B ≡ None
+pub compound_headless : (h : Head) (ps : List ResolvedPattern) (t : Tree) (E : List ℕ) (B : Bindings) → is_headed h t ≡ false
+    → match_pattern (compound h (resolved_patterns_of ps)) t E B ≡ None
 compound_headless h ps t E B e =
-    ap (λ b. cond b (match_places (places_of ps) (children t) E B) None) e
+    ap (λ b. cond b (match_patterns (resolved_patterns_of ps) (children t) E B) None) e
 
-pub compound_matched : (h : Head) (ps : List Place) (t : Tree) (E : List ℕ) (B : Bindings) → is_headed h t ≡ true
-    → match_place (compound h (places_of ps)) t E B ≡ match_places (places_of ps) (children t) E B
+pub compound_matched : (h : Head) (ps : List ResolvedPattern) (t : Tree) (E : List ℕ) (B : Bindings) → is_headed h t ≡ true
+    → match_pattern (compound h (resolved_patterns_of ps)) t E B ≡ match_patterns (resolved_patterns_of ps) (children t) E B
 compound_matched h ps t E B e =
-    ap (λ b. cond b (match_places (places_of ps) (children t) E B) None) e
+    ap (λ b. cond b (match_patterns (resolved_patterns_of ps) (children t) E B) None) e
 
 -- the rest of the test, once there are elements
-abbrev pub tail_matched : List Place → Place → List Tree → List ℕ → Bindings → Option Bindings
+abbrev pub tail_matched : List ResolvedPattern → ResolvedPattern → List Tree → List ℕ → Bindings → Option Bindings
 tail_matched ps p us E B =
-    option_and_then (λ B1. match_place p (list_term (drop (length ps) us)) E B1)
-    (match_places (places_of ps) (take (length ps) us) E B)
+    option_and_then (λ B1. match_pattern p (list_term (drop (length ps) us)) E B1)
+    (match_patterns (resolved_patterns_of ps) (take (length ps) us) E B)
 
-pub tail_listless : (ps : List Place) (p : Place) (t : Tree) (E : List ℕ) (B : Bindings) (r : Bool)
+pub tail_listless : (ps : List ResolvedPattern) (p : ResolvedPattern) (t : Tree) (E : List ℕ) (B : Bindings) (r : Bool)
     → elements t ≡ cond r (Some (children t)) None → r ≡ false
-    → match_place (with_tail (places_of ps) p) t E B ≡ None
+    → match_pattern (with_tail (resolved_patterns_of ps) p) t E B ≡ None
 tail_listless ps p t E B r e f =
     ap (option_and_then (λ us. option_and_then
-    (λ B1. match_place p (list_term (drop (length (place_list (places_of ps))) us)) E B1)
-    (match_places (places_of ps) (take (length (place_list (places_of ps))) us) E B)))
+    (λ B1. match_pattern p (list_term (drop (length (resolved_pattern_list (resolved_patterns_of ps))) us)) E B1)
+    (match_patterns (resolved_patterns_of ps) (take (length (resolved_pattern_list (resolved_patterns_of ps))) us) E B)))
     (e ∙ ap (λ b. cond b (Some (children t)) None) f)
 
-pub tail_listed : (ps : List Place) (p : Place) (t : Tree) (E : List ℕ) (B : Bindings) (r : Bool)
+pub tail_listed : (ps : List ResolvedPattern) (p : ResolvedPattern) (t : Tree) (E : List ℕ) (B : Bindings) (r : Bool)
     → elements t ≡ cond r (Some (children t)) None → r ≡ true
-    → match_place (with_tail (places_of ps) p) t E B ≡ tail_matched ps p (children t) E B
+    → match_pattern (with_tail (resolved_patterns_of ps) p) t E B ≡ tail_matched ps p (children t) E B
 tail_listed ps p t E B r e f =
     ap (option_and_then (λ us. option_and_then
-    (λ B1. match_place p (list_term (drop (length (place_list (places_of ps))) us)) E B1)
-    (match_places (places_of ps) (take (length (place_list (places_of ps))) us) E B)))
+    (λ B1. match_pattern p (list_term (drop (length (resolved_pattern_list (resolved_patterns_of ps))) us)) E B1)
+    (match_patterns (resolved_patterns_of ps) (take (length (resolved_pattern_list (resolved_patterns_of ps))) us) E B)))
     (e ∙ ap (λ b. cond b (Some (children t)) None) f)
-    ∙ ap (λ (l : List Place). option_and_then
-    (λ B1. match_place p (list_term (drop (length l) (children t))) E B1)
-    (match_places (places_of ps) (take (length l) (children t)) E B)) (place_list-places_of ps)
+    ∙ ap (λ (l : List ResolvedPattern). option_and_then
+    (λ B1. match_pattern p (list_term (drop (length l) (children t))) E B1)
+    (match_patterns (resolved_patterns_of ps) (take (length l) (children t)) E B)) (resolved_pattern_list-of ps)
 
-pub tail_short : (ps : List Place) (p : Place) (us : List Tree) (E : List ℕ) (B : Bindings)
+pub tail_short : (ps : List ResolvedPattern) (p : ResolvedPattern) (us : List Tree) (E : List ℕ) (B : Bindings)
     → length us < length ps → tail_matched ps p us E B ≡ None
 tail_short ps p us E B h =
-    ap (option_and_then (λ B1. match_place p (list_term (drop (length ps) us)) E B1))
+    ap (option_and_then (λ B1. match_pattern p (list_term (drop (length ps) us)) E B1))
     (counts_differ ps (take (length ps) us) E B (λ e. omega (arith, h, e, length-take (length ps) us)))

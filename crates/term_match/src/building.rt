@@ -9,16 +9,16 @@ ghost use Rattle.std.specs.declared.option.Option.{Option};
 ghost use Rattle.term_core.specs.declared.TheConstants.{MAX_ROOM};
 ghost use Rattle.term_core.specs.Kind.{made_of};
 ghost use Rattle.term_core.specs.Tree.{Tree, branch, of_list, none, children, with_annotations, list_term};
-ghost use Rattle.strategy_syntax.specs.Resolved.{with_tail, annotated, places_of};
+ghost use Rattle.strategy_syntax.specs.Resolved.{with_tail, annotated, resolved_patterns_of};
 ghost use Rattle.strategy_syntax.specs.Heads.{head_of};
-ghost use Rattle.strategy_meaning.specs.Matching.{Bindings, build_place, build_places, bound_to, elements};
+ghost use Rattle.strategy_meaning.specs.Matching.{Bindings, build_pattern, build_patterns, bound_to, elements};
 ghost use Rattle.term_match.specs.Building.{Builds};
 
 use crate::cells::Cells;
 use crate::matching::is_list;
-use crate::variables::Places;
+use crate::variables::VariableCells;
 use std::alloc::Global;
-use strategy_syntax::{Head, Place, PlaceForm};
+use strategy_syntax::{Head, ResolvedPattern, ResolvedPatternForm};
 use term_core::{Kind, NoMemory};
 use term_values::Value;
 
@@ -53,39 +53,39 @@ impl<'t> Cells<'t> {
     /// The instance of the pattern, if it fits below `level` terms in this room. It shares the
     /// terms in the cells, and names with the pattern. No memory is taken if there is no instance.
     #[inline(always)]
-    pub fn build<P: Places>(
+    pub fn build<P: VariableCells>(
         &mut self,
         alloc: Global,
-        places: &P,
-        pattern: &'t Place,
+        variables: &P,
+        pattern: &'t ResolvedPattern,
         level: u64,
         room: u32,
     ) -> Result<Built<'t>, NoMemory>
         requires { room ≤ MAX_ROOM }
         ensures same { self.new ≡ self.old }
-        ensures ok { IfOk result (λ built. Builds (build_place pattern.now (P.places places.now) self.old.bindings) room level built) }
+        ensures ok { IfOk result (λ built. Builds (build_pattern pattern.now (P.variables variables.now) self.old.bindings) room level built) }
     {
-        if let Some(value) = self.at_once(places, pattern)? {
+        if let Some(value) = self.at_once(variables, pattern)? {
             if value.surely_fits(level, room) {
                 return Ok(Built::Value(value));
             }
             drop(value);
         }
-        self.build_measured(alloc, places, pattern, level, room)
+        self.build_measured(alloc, variables, pattern, level, room)
     }
 
     // The instance of a variable or of a pattern without parts, if there is one.
     #[inline(always)]
-    fn at_once<P: Places>(
+    fn at_once<P: VariableCells>(
         &self,
-        places: &P,
-        pattern: &'t Place,
+        variables: &P,
+        pattern: &'t ResolvedPattern,
     ) -> Result<Option<Value<'t>>, NoMemory>
-        ensures { IfOk result (λ found. IfSome found (λ value. build_place pattern.now (P.places places.now) self.now.bindings ≡ Some value)) }
+        ensures { IfOk result (λ found. IfSome found (λ value. build_pattern pattern.now (P.variables variables.now) self.now.bindings ≡ Some value)) }
     {
         match pattern.form() {
-            PlaceForm::Variable(x) => {
-                let Some(value) = self.bound(places, *x) else {
+            ResolvedPatternForm::Variable(x) => {
+                let Some(value) = self.bound(variables, *x) else {
                     return Ok(None);
                 };
                 let held = value.try_clone()?;
@@ -97,35 +97,35 @@ impl<'t> Cells<'t> {
 
     // The instance, if it fits, after measuring the terms of its variables as far as necessary.
     #[inline(never)]
-    fn build_measured<P: Places>(
+    fn build_measured<P: VariableCells>(
         &mut self,
         alloc: Global,
-        places: &P,
-        pattern: &'t Place,
+        variables: &P,
+        pattern: &'t ResolvedPattern,
         level: u64,
         room: u32,
     ) -> Result<Built<'t>, NoMemory>
         requires { room ≤ MAX_ROOM }
         ensures same { self.new ≡ self.old }
-        ensures ok { IfOk result (λ built. Builds (build_place pattern.now (P.places places.now) self.old.bindings) room level built) }
+        ensures ok { IfOk result (λ built. Builds (build_pattern pattern.now (P.variables variables.now) self.old.bindings) room level built) }
     {
-        if !is_flat(pattern) && !self.has_instance(places, pattern) {
+        if !is_flat(pattern) && !self.has_instance(variables, pattern) {
             return Ok(Built::Nothing);
         }
         'measure: for limit in LIMITS {
-            let Some(value) = self.instance(alloc, places, pattern)? else {
+            let Some(value) = self.instance(alloc, variables, pattern)? else {
                 return Ok(Built::Nothing);
             };
             if value.surely_fits(level, room) {
                 return Ok(Built::Value(value));
             }
-            self.measure(places, pattern, u64::from(limit.min(room)));
+            self.measure(variables, pattern, u64::from(limit.min(room)));
             drop(value);
             if limit >= room {
                 break;
             }
         }
-        let Some(mut value) = self.instance(alloc, places, pattern)? else {
+        let Some(mut value) = self.instance(alloc, variables, pattern)? else {
             return Ok(Built::Nothing);
         };
         if value.fits(level, room) {
@@ -138,24 +138,31 @@ impl<'t> Cells<'t> {
 
     // The instance, if there is one.
     #[cycle(instance)]
-    fn instance<P: Places>(
+    fn instance<P: VariableCells>(
         &self,
         alloc: Global,
-        places: &P,
-        pattern: &'t Place,
+        variables: &P,
+        pattern: &'t ResolvedPattern,
     ) -> Result<Option<Value<'t>>, NoMemory>
-        ensures { IfOk result (λ value. value ≡ build_place pattern.now (P.places places.now) self.now.bindings) }
+        ensures { IfOk result (λ value. value ≡ build_pattern pattern.now (P.variables variables.now) self.now.bindings) }
     {
         match pattern.form() {
-            PlaceForm::Wildcard => Ok(None),
-            PlaceForm::Variable(x) => self.held(places, *x),
-            PlaceForm::At(_, _) => Ok(None),
-            PlaceForm::Integer(number) => Ok(Some(Value::leaf(Kind::Integer(*number)))),
-            PlaceForm::Compound(head, parts) => self.compound(alloc, places, kind_of(head), parts),
-            PlaceForm::WithTail(parts, tail) => self.with_tail(alloc, places, parts, tail),
-            PlaceForm::Annotated(inner, annotations) => self.annotated(
+            ResolvedPatternForm::Wildcard => Ok(None),
+            ResolvedPatternForm::Variable(x) => self.held(variables, *x),
+            ResolvedPatternForm::At(_, _) => Ok(None),
+            ResolvedPatternForm::Integer(number) => Ok(Some(Value::leaf(Kind::Integer(*number)))),
+            ResolvedPatternForm::Compound(head, parts) => self.compound(
                 alloc,
-                places,
+                variables,
+                kind_of(head),
+                parts,
+            ),
+            ResolvedPatternForm::WithTail(parts, tail) => self.with_tail(
+                alloc, variables, parts, tail,
+            ),
+            ResolvedPatternForm::Annotated(inner, annotations) => self.annotated(
+                alloc,
+                variables,
                 inner,
                 annotations,
             ),
@@ -166,18 +173,18 @@ impl<'t> Cells<'t> {
     // list.
     #[cycle(instance)]
     #[inline(always)]
-    fn with_tail<P: Places>(
+    fn with_tail<P: VariableCells>(
         &self,
         alloc: Global,
-        places: &P,
-        parts: &'t [Place],
-        tail: &'t Place,
+        variables: &P,
+        parts: &'t [ResolvedPattern],
+        tail: &'t ResolvedPattern,
     ) -> Result<Option<Value<'t>>, NoMemory>
         ensures { IfOk result (λ value. value
-            ≡ build_place (with_tail (places_of parts.now) tail.now) (P.places places.now) self.now.bindings) }
+            ≡ build_pattern (with_tail (resolved_patterns_of parts.now) tail.now) (P.variables variables.now) self.now.bindings) }
     {
-        let after = self.instance(alloc, places, tail)?;
-        let value = self.in_front(alloc, places, parts, &after);
+        let after = self.instance(alloc, variables, tail)?;
+        let value = self.in_front(alloc, variables, parts, &after);
         drop(after);
         value
     }
@@ -185,18 +192,18 @@ impl<'t> Cells<'t> {
     // The instance of a pattern with the instances of others as annotations.
     #[cycle(instance)]
     #[inline(always)]
-    fn annotated<P: Places>(
+    fn annotated<P: VariableCells>(
         &self,
         alloc: Global,
-        places: &P,
-        inner: &'t Place,
-        annotations: &'t [Place],
+        variables: &P,
+        inner: &'t ResolvedPattern,
+        annotations: &'t [ResolvedPattern],
     ) -> Result<Option<Value<'t>>, NoMemory>
         ensures { IfOk result (λ value. value
-            ≡ build_place (annotated inner.now (places_of annotations.now)) (P.places places.now) self.now.bindings) }
+            ≡ build_pattern (annotated inner.now (resolved_patterns_of annotations.now)) (P.variables variables.now) self.now.bindings) }
     {
-        let value = self.instance(alloc, places, inner)?;
-        let with = self.with_all(alloc, places, &value, annotations);
+        let value = self.instance(alloc, variables, inner)?;
+        let with = self.with_all(alloc, variables, &value, annotations);
         drop(value);
         with
     }
@@ -204,75 +211,75 @@ impl<'t> Cells<'t> {
     // A term, if there is one, with the instances of patterns as annotations.
     #[cycle(instance)]
     #[inline(always)]
-    fn with_all<P: Places>(
+    fn with_all<P: VariableCells>(
         &self,
         alloc: Global,
-        places: &P,
+        variables: &P,
         value: &Option<Value<'t>>,
-        annotations: &'t [Place],
+        annotations: &'t [ResolvedPattern],
     ) -> Result<Option<Value<'t>>, NoMemory>
         ensures { IfOk result (λ with. with ≡ option_and_then (λ u. option_map (with_annotations u)
-            (build_places (places_of annotations.now) (P.places places.now) self.now.bindings)) value.now) }
+            (build_patterns (resolved_patterns_of annotations.now) (P.variables variables.now) self.now.bindings)) value.now) }
     {
         match value {
             None => Ok(None),
-            Some(value) => annotated(alloc, value, self.instances(alloc, places, annotations)?),
+            Some(value) => annotated(alloc, value, self.instances(alloc, variables, annotations)?),
         }
     }
 
     // A node over the instances of these patterns.
     #[cycle(instance)]
-    fn compound<P: Places>(
+    fn compound<P: VariableCells>(
         &self,
         alloc: Global,
-        places: &P,
+        variables: &P,
         kind: Kind<'t>,
-        parts: &'t [Place],
+        parts: &'t [ResolvedPattern],
     ) -> Result<Option<Value<'t>>, NoMemory>
         ensures { IfOk result (λ value. value
-            ≡ option_map (λ us. made_of kind.entry us []) (build_places (places_of parts.now) (P.places places.now) self.now.bindings)) }
+            ≡ option_map (λ us. made_of kind.entry us []) (build_patterns (resolved_patterns_of parts.now) (P.variables variables.now) self.now.bindings)) }
     {
         if parts.len() == 1 {
-            return over_one(alloc, kind, self.instance(alloc, places, &parts[0])?);
+            return over_one(alloc, kind, self.instance(alloc, variables, &parts[0])?);
         }
         if parts.len() == 2 {
-            return self.over_two(alloc, places, kind, &parts[0], &parts[1]);
+            return self.over_two(alloc, variables, kind, &parts[0], &parts[1]);
         }
-        over_all(alloc, kind, self.instances(alloc, places, parts)?)
+        over_all(alloc, kind, self.instances(alloc, variables, parts)?)
     }
 
     // A node over the instances of two patterns.
     #[cycle(instance)]
     #[inline(always)]
-    fn over_two<P: Places>(
+    fn over_two<P: VariableCells>(
         &self,
         alloc: Global,
-        places: &P,
+        variables: &P,
         kind: Kind<'t>,
-        left: &'t Place,
-        right: &'t Place,
+        left: &'t ResolvedPattern,
+        right: &'t ResolvedPattern,
     ) -> Result<Option<Value<'t>>, NoMemory>
         ensures { IfOk result (λ value. value
-            ≡ option_map (λ us. made_of kind.entry us []) (build_places (places_of (left.now ∷ right.now ∷ [])) (P.places places.now) self.now.bindings)) }
+            ≡ option_map (λ us. made_of kind.entry us []) (build_patterns (resolved_patterns_of (left.now ∷ right.now ∷ [])) (P.variables variables.now) self.now.bindings)) }
     {
-        match self.instance(alloc, places, left)? {
+        match self.instance(alloc, variables, left)? {
             None => Ok(None),
-            Some(first) => over_both(alloc, kind, first, self.instance(alloc, places, right)),
+            Some(first) => over_both(alloc, kind, first, self.instance(alloc, variables, right)),
         }
     }
 
     // The list of the instances of these patterns in front of the elements of a list, if there is
     // one.
     #[cycle(instance)]
-    fn in_front<P: Places>(
+    fn in_front<P: VariableCells>(
         &self,
         alloc: Global,
-        places: &P,
-        parts: &'t [Place],
+        variables: &P,
+        parts: &'t [ResolvedPattern],
         after: &Option<Value<'t>>,
     ) -> Result<Option<Value<'t>>, NoMemory>
         ensures { IfOk result (λ value. value ≡ option_and_then (λ us. option_map (λ vs. list_term (us ++ vs))
-            (option_and_then elements after.now)) (build_places (places_of parts.now) (P.places places.now) self.now.bindings)) }
+            (option_and_then elements after.now)) (build_patterns (resolved_patterns_of parts.now) (P.variables variables.now) self.now.bindings)) }
     {
         let Some(after) = after else {
             return Ok(None);
@@ -286,25 +293,25 @@ impl<'t> Cells<'t> {
             .checked_add(parts.len())
             .ok_or(NoMemory)?;
         if parts.len() == 1 {
-            return one_in_front(alloc, self.instance(alloc, places, &parts[0])?, after);
+            return one_in_front(alloc, self.instance(alloc, variables, &parts[0])?, after);
         }
-        all_in_front(alloc, self.instances(alloc, places, parts)?, after)
+        all_in_front(alloc, self.instances(alloc, variables, parts)?, after)
     }
 
     // The instances of these patterns, if each has one.
     #[cycle(instance)]
-    fn instances<P: Places>(
+    fn instances<P: VariableCells>(
         &self,
         alloc: Global,
-        places: &P,
-        parts: &'t [Place],
+        variables: &P,
+        parts: &'t [ResolvedPattern],
     ) -> Result<Option<Vec<Value<'t>>>, NoMemory>
         ensures { IfOk result (λ all. option_map (λ v. v.items) all
-            ≡ build_places (places_of parts.now) (P.places places.now) self.now.bindings) }
+            ≡ build_patterns (resolved_patterns_of parts.now) (P.variables variables.now) self.now.bindings) }
     {
         let mut all = Vec::with_capacity(alloc, parts.len())?;
         for part in parts {
-            match self.instance(alloc, places, part)? {
+            match self.instance(alloc, variables, part)? {
                 None => return Ok(None),
                 Some(value) => all.push(value)?,
             }
@@ -314,56 +321,56 @@ impl<'t> Cells<'t> {
 
     // Whether there is an instance.
     #[cycle(has_instance)]
-    fn has_instance<P: Places>(&self, places: &P, pattern: &Place) -> bool
-        ensures { result ≡ is_some (build_place pattern.now (P.places places.now) self.now.bindings) }
+    fn has_instance<P: VariableCells>(&self, variables: &P, pattern: &ResolvedPattern) -> bool
+        ensures { result ≡ is_some (build_pattern pattern.now (P.variables variables.now) self.now.bindings) }
     {
         match pattern.form() {
-            PlaceForm::Wildcard => false,
-            PlaceForm::Variable(x) => self.bound(places, *x).is_some(),
-            PlaceForm::At(_, _) => false,
-            PlaceForm::Integer(_) => true,
-            PlaceForm::Compound(_, parts) => self.have_instances(places, parts),
-            PlaceForm::WithTail(parts, tail) => {
-                self.have_instances(places, parts) && self.has_list(places, tail)
+            ResolvedPatternForm::Wildcard => false,
+            ResolvedPatternForm::Variable(x) => self.bound(variables, *x).is_some(),
+            ResolvedPatternForm::At(_, _) => false,
+            ResolvedPatternForm::Integer(_) => true,
+            ResolvedPatternForm::Compound(_, parts) => self.have_instances(variables, parts),
+            ResolvedPatternForm::WithTail(parts, tail) => {
+                self.have_instances(variables, parts) && self.has_list(variables, tail)
             }
-            PlaceForm::Annotated(inner, annotations) => {
-                self.has_instance(places, inner) && self.have_instances(places, annotations)
+            ResolvedPatternForm::Annotated(inner, annotations) => {
+                self.has_instance(variables, inner) && self.have_instances(variables, annotations)
             }
         }
     }
 
     // Whether there is an instance that is a list.
     #[cycle(has_instance)]
-    fn has_list<P: Places>(&self, places: &P, pattern: &Place) -> bool
-        ensures { result ≡ is_some (option_and_then elements (build_place pattern.now (P.places places.now) self.now.bindings)) }
+    fn has_list<P: VariableCells>(&self, variables: &P, pattern: &ResolvedPattern) -> bool
+        ensures { result ≡ is_some (option_and_then elements (build_pattern pattern.now (P.variables variables.now) self.now.bindings)) }
     {
         match pattern.form() {
-            PlaceForm::Wildcard => false,
-            PlaceForm::Variable(x) => match self.bound(places, *x) {
+            ResolvedPatternForm::Wildcard => false,
+            ResolvedPatternForm::Variable(x) => match self.bound(variables, *x) {
                 None => false,
                 Some(value) => is_list(value),
             },
-            PlaceForm::At(_, _) => false,
-            PlaceForm::Integer(_) => false,
-            PlaceForm::Compound(head, parts) => {
-                matches!(head, Head::List) && self.have_instances(places, parts)
+            ResolvedPatternForm::At(_, _) => false,
+            ResolvedPatternForm::Integer(_) => false,
+            ResolvedPatternForm::Compound(head, parts) => {
+                matches!(head, Head::List) && self.have_instances(variables, parts)
             }
-            PlaceForm::WithTail(parts, tail) => {
-                self.have_instances(places, parts) && self.has_list(places, tail)
+            ResolvedPatternForm::WithTail(parts, tail) => {
+                self.have_instances(variables, parts) && self.has_list(variables, tail)
             }
-            PlaceForm::Annotated(inner, annotations) => {
-                self.has_list(places, inner) && self.have_instances(places, annotations)
+            ResolvedPatternForm::Annotated(inner, annotations) => {
+                self.has_list(variables, inner) && self.have_instances(variables, annotations)
             }
         }
     }
 
     // Whether each of these patterns has an instance.
     #[cycle(has_instance)]
-    fn have_instances<P: Places>(&self, places: &P, parts: &[Place]) -> bool
-        ensures { result ≡ is_some (build_places (places_of parts.now) (P.places places.now) self.now.bindings) }
+    fn have_instances<P: VariableCells>(&self, variables: &P, parts: &[ResolvedPattern]) -> bool
+        ensures { result ≡ is_some (build_patterns (resolved_patterns_of parts.now) (P.variables variables.now) self.now.bindings) }
     {
         for part in parts {
-            if !self.has_instance(places, part) {
+            if !self.has_instance(variables, part) {
                 return false;
             }
         }
@@ -372,20 +379,24 @@ impl<'t> Cells<'t> {
 
     // Another holder of what a variable is bound to.
     #[inline(always)]
-    fn held<P: Places>(&self, places: &P, variable: usize) -> Result<Option<Value<'t>>, NoMemory>
-        ensures { IfOk result (λ value. value ≡ bound_to (P.places places.now) variable self.now.bindings) }
+    fn held<P: VariableCells>(
+        &self,
+        variables: &P,
+        variable: usize,
+    ) -> Result<Option<Value<'t>>, NoMemory>
+        ensures { IfOk result (λ value. value ≡ bound_to (P.variables variables.now) variable self.now.bindings) }
     {
-        match self.bound(places, variable) {
+        match self.bound(variables, variable) {
             None => Ok(None),
             Some(value) => Ok(Some(value.try_clone()?)),
         }
     }
 
     // What a variable is bound to.
-    fn bound<P: Places>(&self, places: &P, variable: usize) -> Option<&Value<'t>>
-        ensures { option_copied result ≡ bound_to (P.places places.now) variable self.now.bindings }
+    fn bound<P: VariableCells>(&self, variables: &P, variable: usize) -> Option<&Value<'t>>
+        ensures { option_copied result ≡ bound_to (P.variables variables.now) variable self.now.bindings }
     {
-        match places.cell(variable) {
+        match variables.cell(variable) {
             None => None,
             Some(i) => self.get(i),
         }
@@ -393,39 +404,44 @@ impl<'t> Cells<'t> {
 
     // Measures the terms of the pattern's variables that have at most `limit` nodes.
     #[cycle(measure)]
-    fn measure<P: Places>(&mut self, places: &P, pattern: &Place, limit: u64)
+    fn measure<P: VariableCells>(&mut self, variables: &P, pattern: &ResolvedPattern, limit: u64)
         ensures { self.new ≡ self.old }
     {
         match pattern.form() {
-            PlaceForm::Wildcard => {}
-            PlaceForm::Variable(x) => self.measure_variable(places, *x, limit),
-            PlaceForm::At(_, _) => {}
-            PlaceForm::Integer(_) => {}
-            PlaceForm::Compound(_, parts) => self.measure_all(places, parts, limit),
-            PlaceForm::WithTail(parts, tail) => {
-                self.measure_all(places, parts, limit);
-                self.measure(places, tail, limit);
+            ResolvedPatternForm::Wildcard => {}
+            ResolvedPatternForm::Variable(x) => self.measure_variable(variables, *x, limit),
+            ResolvedPatternForm::At(_, _) => {}
+            ResolvedPatternForm::Integer(_) => {}
+            ResolvedPatternForm::Compound(_, parts) => self.measure_all(variables, parts, limit),
+            ResolvedPatternForm::WithTail(parts, tail) => {
+                self.measure_all(variables, parts, limit);
+                self.measure(variables, tail, limit);
             }
-            PlaceForm::Annotated(inner, annotations) => {
-                self.measure(places, inner, limit);
-                self.measure_all(places, annotations, limit);
+            ResolvedPatternForm::Annotated(inner, annotations) => {
+                self.measure(variables, inner, limit);
+                self.measure_all(variables, annotations, limit);
             }
         }
     }
 
     #[cycle(measure)]
-    fn measure_all<P: Places>(&mut self, places: &P, parts: &[Place], limit: u64)
+    fn measure_all<P: VariableCells>(
+        &mut self,
+        variables: &P,
+        parts: &[ResolvedPattern],
+        limit: u64,
+    )
         ensures { self.new ≡ self.old }
     {
         for part in parts {
-            self.measure(places, part, limit);
+            self.measure(variables, part, limit);
         }
     }
 
-    fn measure_variable<P: Places>(&mut self, places: &P, variable: usize, limit: u64)
+    fn measure_variable<P: VariableCells>(&mut self, variables: &P, variable: usize, limit: u64)
         ensures { self.new ≡ self.old }
     {
-        let Some(i) = places.cell(variable) else {
+        let Some(i) = variables.cell(variable) else {
             return;
         };
         if i >= self.cells.len() {
@@ -439,30 +455,31 @@ impl<'t> Cells<'t> {
 
 // Whether a pattern has at most two parts, none of which has parts: then memory is taken only if
 // all have an instance.
-fn is_flat(pattern: &Place) -> bool {
+fn is_flat(pattern: &ResolvedPattern) -> bool {
     match pattern.form() {
-        PlaceForm::Compound(_, parts) => parts.len() <= 2 && parts.iter().all(|p| has_no_parts(p)),
+        ResolvedPatternForm::Compound(_, parts) => parts.len() <= 2
+            && parts.iter().all(|p| has_no_parts(p)),
         _ => false,
     }
 }
 
 // Whether the pattern is a variable, an integer or a head without parts.
-fn has_no_parts(pattern: &Place) -> bool {
+fn has_no_parts(pattern: &ResolvedPattern) -> bool {
     match pattern.form() {
-        PlaceForm::Variable(_) => true,
-        PlaceForm::Integer(_) => true,
-        PlaceForm::Compound(_, parts) => parts.is_empty(),
+        ResolvedPatternForm::Variable(_) => true,
+        ResolvedPatternForm::Integer(_) => true,
+        ResolvedPatternForm::Compound(_, parts) => parts.is_empty(),
         _ => false,
     }
 }
 
 // The instance of a pattern without parts that doesn't depend on bindings.
-fn constant<'t>(pattern: &'t Place) -> Option<Value<'t>>
-    ensures { IfSome result (λ value. (e : List ℕ) (B : Bindings) → build_place pattern.entry.now e B ≡ Some value) }
+fn constant<'t>(pattern: &'t ResolvedPattern) -> Option<Value<'t>>
+    ensures { IfSome result (λ value. (e : List ℕ) (B : Bindings) → build_pattern pattern.entry.now e B ≡ Some value) }
 {
     match pattern.form() {
-        PlaceForm::Integer(number) => Some(Value::leaf(Kind::Integer(*number))),
-        PlaceForm::Compound(head, parts) => {
+        ResolvedPatternForm::Integer(number) => Some(Value::leaf(Kind::Integer(*number))),
+        ResolvedPatternForm::Compound(head, parts) => {
             if !parts.is_empty() {
                 return None;
             }

@@ -15,4 +15,4 @@ pub use building::Built;
 pub use cells::{Cells, Mark};
 pub use matching::is_list;
 pub use terms::BuiltTerm;
-pub use variables::{InSlice, Places};
+pub use variables::{InSlice, VariableCells};

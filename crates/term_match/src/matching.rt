@@ -2,16 +2,16 @@
 
 ghost use Rattle.std.specs.Prelude.{◌≡◌, ◌≤◌, length, take, drop, cond, true, false, IfOk, OnErr, Some, None};
 ghost use Rattle.term_core.specs.Tree.{children, annotations, bare, list_term};
-ghost use Rattle.strategy_syntax.specs.Resolved.{places_of};
-ghost use Rattle.strategy_meaning.specs.Matching.{match_place, match_places, bind, elements, is_integer, is_headed};
+ghost use Rattle.strategy_syntax.specs.Resolved.{resolved_patterns_of};
+ghost use Rattle.strategy_meaning.specs.Matching.{match_pattern, match_patterns, bind, elements, is_integer, is_headed};
 ghost use Rattle.term_match.specs.inside.Binding.{Says};
 ghost use Rattle.term_match.specs.Marks.{mark_of, Before, Stays};
 ghost use Rattle.term_match.specs.inside.Growing.{Grows};
 
 use crate::cells::Cells;
-use crate::variables::Places;
+use crate::variables::VariableCells;
 use std::alloc::Global;
-use strategy_syntax::{Head, Place, PlaceForm};
+use strategy_syntax::{Head, ResolvedPattern, ResolvedPatternForm};
 use term_core::{Kind, NoMemory};
 use term_values::Value;
 
@@ -26,14 +26,14 @@ enum Said {
 impl<'t> Cells<'t> {
     /// Whether the pattern matches the value. If it does, unbound variables are bound; if it
     /// doesn't, or memory can't grow, the cells are unchanged. Terms are bound without a copy.
-    pub fn matches<P: Places>(
+    pub fn matches<P: VariableCells>(
         &mut self,
         alloc: Global,
-        places: &P,
-        pattern: &Place,
+        variables: &P,
+        pattern: &ResolvedPattern,
         value: &Value<'t>,
     ) -> Result<bool, NoMemory>
-        ensures ok { IfOk result (λ yes. match_place pattern.now value.now (P.places places.now) self.old.bindings
+        ensures ok { IfOk result (λ yes. match_pattern pattern.now value.now (P.variables variables.now) self.old.bindings
             ≡ cond yes (Some self.new.bindings) None) }
         ensures no { IfOk result (λ yes. yes ≡ false → self.new ≡ self.old) }
         ensures err { OnErr result (self.new ≡ self.old) }
@@ -41,7 +41,7 @@ impl<'t> Cells<'t> {
         ensures stays { Stays (mark_of self.old) self.old self.new }
     {
         let mark = self.mark();
-        match self.match_part(alloc, places, pattern, value) {
+        match self.match_part(alloc, variables, pattern, value) {
             Ok(true) => Ok(true),
             Ok(false) => {
                 self.back_to(mark);
@@ -56,53 +56,53 @@ impl<'t> Cells<'t> {
 
     // Matches the value. Without a match some variables may have been bound.
     #[cycle(match_part)]
-    fn match_part<P: Places>(
+    fn match_part<P: VariableCells>(
         &mut self,
         alloc: Global,
-        places: &P,
-        pattern: &Place,
+        variables: &P,
+        pattern: &ResolvedPattern,
         value: &Value<'t>,
     ) -> Result<bool, NoMemory>
-        ensures ok { IfOk result (λ yes. match_place pattern.now value.now (P.places places.now) self.old.bindings
+        ensures ok { IfOk result (λ yes. match_pattern pattern.now value.now (P.variables variables.now) self.old.bindings
             ≡ cond yes (Some self.new.bindings) None) }
         ensures grows { Grows self.old self.new }
     {
         match pattern.form() {
-            PlaceForm::Wildcard => Ok(true),
-            PlaceForm::Variable(x) => self.bind(places, *x, value),
-            PlaceForm::At(x, inner) => {
-                if !self.bind(places, *x, value)? {
+            ResolvedPatternForm::Wildcard => Ok(true),
+            ResolvedPatternForm::Variable(x) => self.bind(variables, *x, value),
+            ResolvedPatternForm::At(x, inner) => {
+                if !self.bind(variables, *x, value)? {
                     return Ok(false);
                 }
-                self.match_part(alloc, places, inner, value)
+                self.match_part(alloc, variables, inner, value)
             }
-            PlaceForm::Integer(number) => Ok(is_integer(*number, value)),
-            PlaceForm::Compound(head, parts) => {
+            ResolvedPatternForm::Integer(number) => Ok(is_integer(*number, value)),
+            ResolvedPatternForm::Compound(head, parts) => {
                 if !head.is_head_of(value.kind()) {
                     return Ok(false);
                 }
                 if value.child_count() != parts.len() {
                     return Ok(false);
                 }
-                self.match_children(alloc, places, parts, value)
+                self.match_children(alloc, variables, parts, value)
             }
-            PlaceForm::WithTail(parts, tail) => {
+            ResolvedPatternForm::WithTail(parts, tail) => {
                 if !is_list(value) {
                     return Ok(false);
                 }
                 if value.child_count() < parts.len() {
                     return Ok(false);
                 }
-                if !self.match_children(alloc, places, parts, value)? {
+                if !self.match_children(alloc, variables, parts, value)? {
                     return Ok(false);
                 }
-                self.match_rest(alloc, places, tail, value, parts.len())
+                self.match_rest(alloc, variables, tail, value, parts.len())
             }
-            PlaceForm::Annotated(inner, annotations) => {
-                if !self.match_bare(alloc, places, inner, value)? {
+            ResolvedPatternForm::Annotated(inner, annotations) => {
+                if !self.match_bare(alloc, variables, inner, value)? {
                     return Ok(false);
                 }
-                self.match_annotations(alloc, places, annotations, value)
+                self.match_annotations(alloc, variables, annotations, value)
             }
         }
     }
@@ -110,62 +110,62 @@ impl<'t> Cells<'t> {
     // Matches the value without its annotations.
     #[cycle(match_part)]
     #[inline(always)]
-    fn match_bare<P: Places>(
+    fn match_bare<P: VariableCells>(
         &mut self,
         alloc: Global,
-        places: &P,
-        pattern: &Place,
+        variables: &P,
+        pattern: &ResolvedPattern,
         value: &Value<'t>,
     ) -> Result<bool, NoMemory>
-        ensures ok { IfOk result (λ yes. match_place pattern.now (bare value.now) (P.places places.now) self.old.bindings
+        ensures ok { IfOk result (λ yes. match_pattern pattern.now (bare value.now) (P.variables variables.now) self.old.bindings
             ≡ cond yes (Some self.new.bindings) None) }
         ensures grows { Grows self.old self.new }
     {
         let bare = value.bare()?;
-        let matched = self.match_part(alloc, places, pattern, &bare);
+        let matched = self.match_part(alloc, variables, pattern, &bare);
         drop(bare);
         matched
     }
 
     // Matches the list of the children after the first ones, without annotations.
     #[cycle(match_part)]
-    fn match_rest<P: Places>(
+    fn match_rest<P: VariableCells>(
         &mut self,
         alloc: Global,
-        places: &P,
-        pattern: &Place,
+        variables: &P,
+        pattern: &ResolvedPattern,
         value: &Value<'t>,
         skipped: usize,
     ) -> Result<bool, NoMemory>
         requires { skipped ≤ length (children value.now) }
-        ensures ok { IfOk result (λ yes. match_place pattern.now (list_term (drop skipped (children value.now)))
-            (P.places places.now) self.old.bindings ≡ cond yes (Some self.new.bindings) None) }
+        ensures ok { IfOk result (λ yes. match_pattern pattern.now (list_term (drop skipped (children value.now)))
+            (P.variables variables.now) self.old.bindings ≡ cond yes (Some self.new.bindings) None) }
         ensures grows { Grows self.old self.new }
     {
         let rest = value.rest(alloc, skipped)?;
-        let matched = self.match_part(alloc, places, pattern, &rest);
+        let matched = self.match_part(alloc, variables, pattern, &rest);
         drop(rest);
         matched
     }
 
     // Matches the first children, each with a pattern.
     #[cycle(match_part)]
-    fn match_children<P: Places>(
+    fn match_children<P: VariableCells>(
         &mut self,
         alloc: Global,
-        places: &P,
-        patterns: &[Place],
+        variables: &P,
+        patterns: &[ResolvedPattern],
         value: &Value<'t>,
     ) -> Result<bool, NoMemory>
-        ensures ok { IfOk result (λ yes. match_places (places_of patterns.now) (take (length patterns.now) (children value.now))
-            (P.places places.now) self.old.bindings ≡ cond yes (Some self.new.bindings) None) }
+        ensures ok { IfOk result (λ yes. match_patterns (resolved_patterns_of patterns.now) (take (length patterns.now) (children value.now))
+            (P.variables variables.now) self.old.bindings ≡ cond yes (Some self.new.bindings) None) }
         ensures grows { Grows self.old self.new }
     {
         for i in 0..patterns.len() {
             let Some(child) = value.child(i)? else {
                 return Ok(false);
             };
-            if !self.match_child(alloc, places, &patterns[i], child)? {
+            if !self.match_child(alloc, variables, &patterns[i], child)? {
                 return Ok(false);
             }
         }
@@ -174,25 +174,25 @@ impl<'t> Cells<'t> {
 
     // `match_part`, consuming the value.
     #[cycle(match_part)]
-    fn match_child<P: Places>(
+    fn match_child<P: VariableCells>(
         &mut self,
         alloc: Global,
-        places: &P,
-        pattern: &Place,
+        variables: &P,
+        pattern: &ResolvedPattern,
         value: Value<'t>,
     ) -> Result<bool, NoMemory>
-        ensures ok { IfOk result (λ yes. match_place pattern.now value.entry (P.places places.now) self.old.bindings
+        ensures ok { IfOk result (λ yes. match_pattern pattern.now value.entry (P.variables variables.now) self.old.bindings
             ≡ cond yes (Some self.new.bindings) None) }
         ensures grows { Grows self.old self.new }
     {
         match pattern.form() {
-            PlaceForm::Wildcard => {
+            ResolvedPatternForm::Wildcard => {
                 drop(value);
                 Ok(true)
             }
-            PlaceForm::Variable(x) => self.bind_owned(places, *x, value),
+            ResolvedPatternForm::Variable(x) => self.bind_owned(variables, *x, value),
             _ => {
-                let matched = self.match_part(alloc, places, pattern, &value);
+                let matched = self.match_part(alloc, variables, pattern, &value);
                 drop(value);
                 matched
             }
@@ -201,15 +201,15 @@ impl<'t> Cells<'t> {
 
     // Matches all annotations, each with a pattern.
     #[cycle(match_part)]
-    fn match_annotations<P: Places>(
+    fn match_annotations<P: VariableCells>(
         &mut self,
         alloc: Global,
-        places: &P,
-        patterns: &[Place],
+        variables: &P,
+        patterns: &[ResolvedPattern],
         value: &Value<'t>,
     ) -> Result<bool, NoMemory>
-        ensures ok { IfOk result (λ yes. match_places (places_of patterns.now) (annotations value.now)
-            (P.places places.now) self.old.bindings ≡ cond yes (Some self.new.bindings) None) }
+        ensures ok { IfOk result (λ yes. match_patterns (resolved_patterns_of patterns.now) (annotations value.now)
+            (P.variables variables.now) self.old.bindings ≡ cond yes (Some self.new.bindings) None) }
         ensures grows { Grows self.old self.new }
     {
         if value.annotation_count() != patterns.len() {
@@ -217,7 +217,7 @@ impl<'t> Cells<'t> {
         }
         let annotations = value.share_annotations(alloc)?;
         for i in 0..patterns.len() {
-            if !self.match_part(alloc, places, &patterns[i], &annotations[i])? {
+            if !self.match_part(alloc, variables, &patterns[i], &annotations[i])? {
                 return Ok(false);
             }
         }
@@ -225,17 +225,17 @@ impl<'t> Cells<'t> {
     }
 
     // Binds a variable to the term, or compares the term it is bound to.
-    fn bind<P: Places>(
+    fn bind<P: VariableCells>(
         &mut self,
-        places: &P,
+        variables: &P,
         variable: usize,
         value: &Value<'t>,
     ) -> Result<bool, NoMemory>
-        ensures ok { IfOk result (λ yes. bind (P.places places.now) variable value.now self.old.bindings
+        ensures ok { IfOk result (λ yes. bind (P.variables variables.now) variable value.now self.old.bindings
             ≡ cond yes (Some self.new.bindings) None) }
         ensures grows { Grows self.old self.new }
     {
-        match self.look(places, variable, value) {
+        match self.look(variables, variable, value) {
             Said::Same(same) => Ok(same),
             Said::Empty(i) => {
                 self.fill(i, value.try_clone()?)?;
@@ -245,17 +245,17 @@ impl<'t> Cells<'t> {
     }
 
     // `bind`, consuming the value.
-    fn bind_owned<P: Places>(
+    fn bind_owned<P: VariableCells>(
         &mut self,
-        places: &P,
+        variables: &P,
         variable: usize,
         value: Value<'t>,
     ) -> Result<bool, NoMemory>
-        ensures ok { IfOk result (λ yes. bind (P.places places.now) variable value.entry self.old.bindings
+        ensures ok { IfOk result (λ yes. bind (P.variables variables.now) variable value.entry self.old.bindings
             ≡ cond yes (Some self.new.bindings) None) }
         ensures grows { Grows self.old self.new }
     {
-        match self.look(places, variable, &value) {
+        match self.look(variables, variable, &value) {
             Said::Same(same) => {
                 drop(value);
                 Ok(same)
@@ -269,10 +269,10 @@ impl<'t> Cells<'t> {
 
     // Compares the cell of a variable with a term.
     #[inline(always)]
-    fn look<P: Places>(&self, places: &P, variable: usize, value: &Value<'t>) -> Said
-        ensures { Says (P.places places.now) variable value.now self.now.bindings result }
+    fn look<P: VariableCells>(&self, variables: &P, variable: usize, value: &Value<'t>) -> Said
+        ensures { Says (P.variables variables.now) variable value.now self.now.bindings result }
     {
-        let Some(i) = places.cell(variable) else {
+        let Some(i) = variables.cell(variable) else {
             return Said::Same(false);
         };
         if i >= self.cells.len() {

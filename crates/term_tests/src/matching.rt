@@ -3,7 +3,7 @@
 
 use std::alloc::Global;
 use std::test::Fail;
-use strategy_syntax::{Head, Place, PlaceForm};
+use strategy_syntax::{Head, ResolvedPattern, ResolvedPatternForm};
 use term_core::{Kind, MAX_SIZE, NoMemory, Term};
 use term_match::{Built, BuiltTerm, Cells, InSlice};
 use term_values::Value;
@@ -19,18 +19,21 @@ fn pair(alloc: Global, first: i64, second: i64) -> Result<Term, NoMemory> {
 
 // A pair of variables, in a box, which is dropped by a call: the drop of a pattern itself is proved
 // anew on each way out.
-fn variables(alloc: Global, first: usize, second: usize) -> Result<Box<Place>, NoMemory> {
-    let first = Place::new(PlaceForm::Variable(first));
-    let second = Place::new(PlaceForm::Variable(second));
-    let form = PlaceForm::Compound(Head::Tuple, vec![in alloc; first, second]?);
-    Ok(Box::new(alloc, Place::new(form))?)
+fn variables(alloc: Global, first: usize, second: usize) -> Result<Box<ResolvedPattern>, NoMemory> {
+    let first = ResolvedPattern::new(ResolvedPatternForm::Variable(first));
+    let second = ResolvedPattern::new(ResolvedPatternForm::Variable(second));
+    let form = ResolvedPatternForm::Compound(Head::Tuple, vec![in alloc; first, second]?);
+    Ok(Box::new(alloc, ResolvedPattern::new(form))?)
 }
 
 // In a box, too.
-fn rest(alloc: Global, variable: usize) -> Result<Box<Place>, NoMemory> {
-    let tail = Box::new(alloc, Place::new(PlaceForm::Variable(variable)))?;
-    let form = PlaceForm::WithTail(Vec::new(alloc), tail);
-    Ok(Box::new(alloc, Place::new(form))?)
+fn rest(alloc: Global, variable: usize) -> Result<Box<ResolvedPattern>, NoMemory> {
+    let tail = Box::new(
+        alloc,
+        ResolvedPattern::new(ResolvedPatternForm::Variable(variable)),
+    )?;
+    let form = ResolvedPatternForm::WithTail(Vec::new(alloc), tail);
+    Ok(Box::new(alloc, ResolvedPattern::new(form))?)
 }
 
 // [1]{2}
@@ -50,12 +53,12 @@ fn holds(cells: &Cells<'_>, i: usize, number: i64) -> bool {
 #[derive(Clone, Copy)]
 struct Parts<'t> {
     // (x,y), (y,x), (x,x), (x,w)
-    both: &'t Place,
-    swapped: &'t Place,
-    twice: &'t Place,
-    unknown: &'t Place,
+    both: &'t ResolvedPattern,
+    swapped: &'t ResolvedPattern,
+    twice: &'t ResolvedPattern,
+    unknown: &'t ResolvedPattern,
     // [|y]
-    rest: &'t Place,
+    rest: &'t ResolvedPattern,
     // (1,2), (2,1), 1, [1]{2}
     term: &'t Term,
     turned: &'t Term,
@@ -76,13 +79,13 @@ fn are_matched<'t>(
     cells: &mut Cells<'t>,
     parts: Parts<'t>,
 ) -> Result<bool, NoMemory> {
-    let places = InSlice { cells: &CELLS };
+    let variables = InSlice { cells: &CELLS };
     cells.open_cells(2)?;
-    let is_twice = cells.matches_term(alloc, &places, parts.twice, parts.term)?;
+    let is_twice = cells.matches_term(alloc, &variables, parts.twice, parts.term)?;
     let binds_nothing = cells.get(0).is_none() && cells.get(1).is_none();
     let value = Value::original(parts.term);
-    let is_both = cells.matches(alloc, &places, parts.both, &value)?;
-    let is_again = cells.matches_term(alloc, &places, parts.both, parts.turned)?;
+    let is_both = cells.matches(alloc, &variables, parts.both, &value)?;
+    let is_again = cells.matches_term(alloc, &variables, parts.both, parts.turned)?;
     Ok(
         !is_twice
             && binds_nothing
@@ -96,12 +99,12 @@ fn are_matched<'t>(
 // A list without elements in front, as no text spells one: its rest is the list without
 // annotations.
 fn are_rests<'t>(alloc: Global, cells: &mut Cells<'t>, parts: Parts<'t>) -> Result<bool, NoMemory> {
-    let places = InSlice { cells: &CELLS };
+    let variables = InSlice { cells: &CELLS };
     cells.close_to(0);
     cells.open_cells(1)?;
-    let is_list = cells.matches_term(alloc, &places, parts.rest, parts.list)?;
-    let is_unknown = cells.matches_term(alloc, &places, parts.unknown, parts.term)?;
-    let built = cells.build_term(alloc, &places, parts.rest, 0, MAX_SIZE)?;
+    let is_list = cells.matches_term(alloc, &variables, parts.rest, parts.list)?;
+    let is_unknown = cells.matches_term(alloc, &variables, parts.unknown, parts.term)?;
+    let built = cells.build_term(alloc, &variables, parts.rest, 0, MAX_SIZE)?;
     let is_bare = match built {
         BuiltTerm::Term(list) => list.child_count() == 1 && list.annotations().is_empty(),
         _ => false,
@@ -112,23 +115,23 @@ fn are_rests<'t>(alloc: Global, cells: &mut Cells<'t>, parts: Parts<'t>) -> Resu
 // (y,x) is built where it fits, at a low enough level and in room for 3 terms, and (x,w) has no
 // instance.
 fn are_built<'t>(alloc: Global, cells: &mut Cells<'t>, parts: Parts<'t>) -> Result<bool, NoMemory> {
-    let places = InSlice { cells: &CELLS };
-    let swapped = cells.build_term(alloc, &places, parts.swapped, 998, 3)?;
+    let variables = InSlice { cells: &CELLS };
+    let swapped = cells.build_term(alloc, &variables, parts.swapped, 998, 3)?;
     let is_turned = is_term(&swapped, parts.turned);
     let is_big = matches!(
-        cells.build_term(alloc, &places, parts.swapped, 999, MAX_SIZE)?,
+        cells.build_term(alloc, &variables, parts.swapped, 999, MAX_SIZE)?,
         BuiltTerm::Big
     );
     let is_larger = matches!(
-        cells.build_term(alloc, &places, parts.swapped, 0, 2)?,
+        cells.build_term(alloc, &variables, parts.swapped, 0, 2)?,
         BuiltTerm::Big
     );
     let is_built = matches!(
-        cells.build(alloc, &places, parts.swapped, 0, MAX_SIZE)?,
+        cells.build(alloc, &variables, parts.swapped, 0, MAX_SIZE)?,
         Built::Value(_)
     );
     let none = matches!(
-        cells.build(alloc, &places, parts.unknown, 0, MAX_SIZE)?,
+        cells.build(alloc, &variables, parts.unknown, 0, MAX_SIZE)?,
         Built::Nothing
     );
     Ok(is_turned && is_big && is_larger && is_built && none)
@@ -140,13 +143,13 @@ fn are_closed<'t>(
     cells: &mut Cells<'t>,
     parts: Parts<'t>,
 ) -> Result<bool, NoMemory> {
-    let places = InSlice { cells: &CELLS };
+    let variables = InSlice { cells: &CELLS };
     cells.close_to(0);
     cells.open_cells(2)?;
     let mark = cells.mark();
     cells.open_with(Value::original(parts.one))?;
     let is_open = cells.count() == 3 && holds(cells, 2, 1);
-    let is_both = cells.matches_term(alloc, &places, parts.both, parts.term)?;
+    let is_both = cells.matches_term(alloc, &variables, parts.both, parts.term)?;
     cells.back_to(mark);
     let is_back = cells.count() == 2 && cells.get(0).is_none() && cells.get(1).is_none();
     cells.close_cells(1);

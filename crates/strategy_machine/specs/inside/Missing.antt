@@ -2,17 +2,17 @@
 use Rattle.std.specs.Prelude.{◌≡◌, ℕ, List, None, Some, ⊤}
 use Rattle.std.specs.declared.option.Option.{Option}
 use Rattle.term_core.specs.Tree.{Tree}
-use Rattle.strategy_syntax.specs.Resolved.{Place, ResolvedStrategy}
+use Rattle.strategy_syntax.specs.Resolved.{ResolvedPattern, ResolvedStrategy}
 use Rattle.strategy_syntax.specs.declared.resolved.Resolved.{Resolved}
 use Rattle.strategy_meaning.specs.Scopes.{Scope, stands_for}
-use Rattle.strategy_meaning.specs.Matching.{Bindings, match_place}
+use Rattle.strategy_meaning.specs.Matching.{Bindings, match_pattern}
 use Rattle.strategy_meaning.specs.Answer.{failed}
 use Rattle.strategy_meaning.specs.Meaning.{World, run}
 use Rattle.strategy_machine.specs.Table.{scope_at}
 
 -- the pattern doesn't match the term, whatever the variables are bound to
-pub record Misses (p : Place) (t : Tree) : Type 0 where
-  pub never : (E : List ℕ) (B : Bindings) → match_place p t E B ≡ None
+pub record Misses (p : ResolvedPattern) (t : Tree) : Type 0 where
+  pub never : (E : List ℕ) (B : Bindings) → match_pattern p t E B ≡ None
 
 -- the strategy names of the scope are those of scope n, if n is known
 abbrev pub HasNames : List Scope → Option ℕ → Scope → Type 0

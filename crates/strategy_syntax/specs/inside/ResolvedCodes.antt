@@ -6,7 +6,7 @@ use Rattle.std.specs.Coded.{Coded, code_by}
 use Rattle.term_core.specs.Tree.{Symbol}
 use Rattle.strategy_syntax.specs.Syntax as named
 use Rattle.strategy_syntax.specs.inside.Codes.{pattern_code, strategy_code}
-use Rattle.strategy_syntax.specs.Resolved.{Place, wildcard, variable, at, number, compound, with_tail, annotated, Places, no_places, and_place, ResolvedStrategy, id, fail, matches, builds, seq, guard, test, scope, param, call, congruence, tail_congruence, all, one, some, child, rec, prim, ResolvedStrategies, no_strategies, and_strategy}
+use Rattle.strategy_syntax.specs.Resolved.{ResolvedPattern, wildcard, variable, at, number, compound, with_tail, annotated, ResolvedPatterns, no_resolved_patterns, and_resolved_pattern, ResolvedStrategy, id, fail, matches, builds, seq, guard, test, scope, param, call, congruence, tail_congruence, all, one, some, child, rec, prim, ResolvedStrategies, no_strategies, and_strategy}
 
 abbrev name_of : Bool → ℕ → Symbol
 name_of quoted n = record { text = n ∷ []; is_quoted = quoted }
@@ -25,7 +25,7 @@ number_of_first (f ∷ fs) = symbol_number f
 -- ---- patterns
 
 abbrev mutual
-  pub to_pattern : Place → named.Pattern
+  pub to_pattern : ResolvedPattern → named.Pattern
   to_pattern wildcard = named.wildcard
   to_pattern (variable x) = named.variable (name_of false x)
   to_pattern (at x p) = named.at (name_of false x) (to_pattern p)
@@ -34,12 +34,12 @@ abbrev mutual
   to_pattern (with_tail ps p) = named.with_tail (to_patterns ps) (to_pattern p)
   to_pattern (annotated p ps) = named.annotated (to_pattern p) (to_patterns ps)
 
-  pub to_patterns : Places → named.Patterns
-  to_patterns no_places = named.no_patterns
-  to_patterns (and_place p ps) = named.and_pattern (to_pattern p) (to_patterns ps)
+  pub to_patterns : ResolvedPatterns → named.Patterns
+  to_patterns no_resolved_patterns = named.no_patterns
+  to_patterns (and_resolved_pattern p ps) = named.and_pattern (to_pattern p) (to_patterns ps)
 
 abbrev mutual
-  pub of_pattern : named.Pattern → Place
+  pub of_pattern : named.Pattern → ResolvedPattern
   of_pattern named.wildcard = wildcard
   of_pattern (named.variable x) = variable (symbol_number x)
   of_pattern (named.at x p) = at (symbol_number x) (of_pattern p)
@@ -48,26 +48,26 @@ abbrev mutual
   of_pattern (named.with_tail ps p) = with_tail (of_patterns ps) (of_pattern p)
   of_pattern (named.annotated p ps) = annotated (of_pattern p) (of_patterns ps)
 
-  pub of_patterns : named.Patterns → Places
-  of_patterns named.no_patterns = no_places
-  of_patterns (named.and_pattern p ps) = and_place (of_pattern p) (of_patterns ps)
+  pub of_patterns : named.Patterns → ResolvedPatterns
+  of_patterns named.no_patterns = no_resolved_patterns
+  of_patterns (named.and_pattern p ps) = and_resolved_pattern (of_pattern p) (of_patterns ps)
 
 mutual
-  pub place_again : (p : Place) → of_pattern (to_pattern p) ≡ p
-  place_again wildcard = refl
-  place_again (variable x) = refl
-  place_again (at x p) = ap (at x) (place_again p)
-  place_again (number z) = refl
-  place_again (compound h ps) = ap (compound h) (places_again ps)
-  place_again (with_tail ps p) = λ i. with_tail (places_again ps i) (place_again p i)
-  place_again (annotated p ps) = λ i. annotated (place_again p i) (places_again ps i)
+  pub resolved_pattern_again : (p : ResolvedPattern) → of_pattern (to_pattern p) ≡ p
+  resolved_pattern_again wildcard = refl
+  resolved_pattern_again (variable x) = refl
+  resolved_pattern_again (at x p) = ap (at x) (resolved_pattern_again p)
+  resolved_pattern_again (number z) = refl
+  resolved_pattern_again (compound h ps) = ap (compound h) (resolved_patterns_again ps)
+  resolved_pattern_again (with_tail ps p) = λ i. with_tail (resolved_patterns_again ps i) (resolved_pattern_again p i)
+  resolved_pattern_again (annotated p ps) = λ i. annotated (resolved_pattern_again p i) (resolved_patterns_again ps i)
 
-  pub places_again : (ps : Places) → of_patterns (to_patterns ps) ≡ ps
-  places_again no_places = refl
-  places_again (and_place p ps) = λ i. and_place (place_again p i) (places_again ps i)
+  pub resolved_patterns_again : (ps : ResolvedPatterns) → of_patterns (to_patterns ps) ≡ ps
+  resolved_patterns_again no_resolved_patterns = refl
+  resolved_patterns_again (and_resolved_pattern p ps) = λ i. and_resolved_pattern (resolved_pattern_again p i) (resolved_patterns_again ps i)
 
-abbrev pub place_code : Coded Place
-place_code = code_by named.Pattern pattern_code to_pattern of_pattern place_again
+abbrev pub resolved_pattern_code : Coded ResolvedPattern
+resolved_pattern_code = code_by named.Pattern pattern_code to_pattern of_pattern resolved_pattern_again
 
 -- ---- strategies
 
@@ -126,15 +126,15 @@ mutual
   pub strategy_again : (s : ResolvedStrategy) → of_strategy (to_strategy s) ≡ s
   strategy_again id = refl
   strategy_again fail = refl
-  strategy_again (matches p) = ap matches (place_again p)
-  strategy_again (builds p) = ap builds (place_again p)
+  strategy_again (matches p) = ap matches (resolved_pattern_again p)
+  strategy_again (builds p) = ap builds (resolved_pattern_again p)
   strategy_again (seq a b) = λ i. seq (strategy_again a i) (strategy_again b i)
   strategy_again (guard a b c) =
       λ i. guard (strategy_again a i) (strategy_again b i) (strategy_again c i)
   strategy_again (test a) = ap test (strategy_again a)
   strategy_again (scope n a) = ap (scope n) (strategy_again a)
   strategy_again (param x) = refl
-  strategy_again (call f ss ps) = λ i. call f (strategies_again ss i) (places_again ps i)
+  strategy_again (call f ss ps) = λ i. call f (strategies_again ss i) (resolved_patterns_again ps i)
   strategy_again (congruence h ss) = ap (congruence h) (strategies_again ss)
   strategy_again (tail_congruence ss a) =
       λ i. tail_congruence (strategies_again ss i) (strategy_again a i)
@@ -143,7 +143,7 @@ mutual
   strategy_again (some a) = ap some (strategy_again a)
   strategy_again (child n a) = ap (child n) (strategy_again a)
   strategy_again (rec a) = ap rec (strategy_again a)
-  strategy_again (prim n ps) = ap (prim n) (places_again ps)
+  strategy_again (prim n ps) = ap (prim n) (resolved_patterns_again ps)
 
   pub strategies_again : (ss : ResolvedStrategies) → of_strategies (to_strategies ss) ≡ ss
   strategies_again no_strategies = refl

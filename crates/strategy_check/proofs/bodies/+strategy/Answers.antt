@@ -1,7 +1,7 @@
 use Rattle.std.proofs.Common.{ap, ◌∙◌}
 use Rattle.strategy_syntax.specs.Syntax.{strategies_of, patterns_of}
 use Rattle.strategy_syntax.specs.StrategyView.{strategy_of}
-use Rattle.strategy_check.specs.Resolving.{places, resolved_strategy, resolved_strategies}
+use Rattle.strategy_check.specs.Resolving.{resolved_patterns, resolved_strategy, resolved_strategies}
 use Rattle.strategy_check.proofs.BodyLemmas.{resolved-next, used}
 use Rattle.strategy_check.proofs.bodies.+strategy.Goals as goal
 
@@ -18,5 +18,5 @@ resolve_form-returns-in_ok-terms-in-Use-clause-resolved g t c =
     used c.args.table.now c.args.primitives.now c.args.scope.now c.resolve_strategies.new.scope c.in-Use.name c.in-Use.parts.items c.in-Use.terms.items c.in_ok-parts-in-Use.parts.items c.in_ok-terms-in-Use.terms.items
     c.resolve_use.result c.args.strategy.now (c.form.ensures ∙ ap strategy_of c.in-Use.is) c.in_ok-parts-in-Use.ensures.scope
     (c.in_ok-parts-in-Use.ensures.resolved ∙ ap (λ ss. resolved_strategies c.args.table.now c.args.primitives.now c.args.scope.now (strategies_of ss)) c.deref-in-Use.ensures.value)
-    (c.in_ok-terms-in-Use.ensures ∙ ap (λ ps. places c.resolve_strategies.new.scope.variables (patterns_of ps)) c.deref-in-Use-2.ensures.value)
+    (c.in_ok-terms-in-Use.ensures ∙ ap (λ ps. resolved_patterns c.resolve_strategies.new.scope.variables (patterns_of ps)) c.deref-in-Use-2.ensures.value)
     c.resolve_use.ensures

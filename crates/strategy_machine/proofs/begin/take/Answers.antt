@@ -5,7 +5,7 @@ use Rattle.strategy_machine.proofs.FormLemmas.{taken_form, taken_turn}
 use Rattle.strategy_syntax.specs.Heads.{head_of}
 use Rattle.strategy_machine.specs.Turns.{state_of, world_of}
 use Rattle.strategy_syntax.specs.ResolvedView.{resolved_of}
-use Rattle.strategy_syntax.specs.Resolved.{seq, guard, test, scope, call, congruence, tail_congruence, all, one, some, child, rec, prim, resolveds_of, places_of}
+use Rattle.strategy_syntax.specs.Resolved.{seq, guard, test, scope, call, congruence, tail_congruence, all, one, some, child, rec, prim, resolveds_of, resolved_patterns_of}
 use Rattle.strategy_machine.proofs.begin.take.Goals as goal
 
 pub returns-in-Id-clause-ok : goal.returns-in-Id-clause-ok
@@ -36,7 +36,7 @@ pub returns-in-Param-clause-ok : goal.returns-in-Param-clause-ok
 returns-in-Param-clause-ok g c = taken_turn (world_of g.M.Meaning.meaning c.args.host.now.definitions.now c.args.host.now.primitives.now c.args.host.now.room) c.args.m.now c.args.strategy.now _ c.args.scope c.args.m.now.part _ ((c.form.ensures ∙ ap resolved_of c.in-Param.is)) (c.take_param.ensures.ok (world_of g.M.Meaning.meaning c.args.host.now.definitions.now c.args.host.now.primitives.now c.args.host.now.room)).keeps
 
 pub returns-in-Call-clause-ok : goal.returns-in-Call-clause-ok
-returns-in-Call-clause-ok g c = taken_form (world_of g.M.Meaning.meaning c.args.host.now.definitions.now c.args.host.now.primitives.now c.args.host.now.room) c.args.m.now c.take_call.new.m c.args.strategy.now _ c.args.scope c.args.m.now.part c.take_call.result ((c.form.ensures ∙ ap resolved_of c.in-Call.is ∙ (λ i. call c.in-Call.definition (resolveds_of (sym c.deref-in-Call.ensures.value i)) (places_of (sym c.deref-in-Call-2.ensures.value i))))) (c.take_call.ensures.ok)
+returns-in-Call-clause-ok g c = taken_form (world_of g.M.Meaning.meaning c.args.host.now.definitions.now c.args.host.now.primitives.now c.args.host.now.room) c.args.m.now c.take_call.new.m c.args.strategy.now _ c.args.scope c.args.m.now.part c.take_call.result ((c.form.ensures ∙ ap resolved_of c.in-Call.is ∙ (λ i. call c.in-Call.definition (resolveds_of (sym c.deref-in-Call.ensures.value i)) (resolved_patterns_of (sym c.deref-in-Call-2.ensures.value i))))) (c.take_call.ensures.ok)
 
 pub returns-in-Congruence-clause-ok : goal.returns-in-Congruence-clause-ok
 returns-in-Congruence-clause-ok g c = taken_form (world_of g.M.Meaning.meaning c.args.host.now.definitions.now c.args.host.now.primitives.now c.args.host.now.room) c.args.m.now c.take_congruence.new.m c.args.strategy.now _ c.args.scope c.args.m.now.part c.take_congruence.result ((c.form.ensures ∙ ap resolved_of c.in-Congruence.is ∙ ap (λ ss. congruence (head_of c.in-Congruence.head) (resolveds_of ss)) (sym c.deref-in-Congruence.ensures.value))) (c.take_congruence.ensures.ok (world_of g.M.Meaning.meaning c.args.host.now.definitions.now c.args.host.now.primitives.now c.args.host.now.room))
@@ -65,7 +65,7 @@ pub returns-in-Rec-clause-ok : goal.returns-in-Rec-clause-ok
 returns-in-Rec-clause-ok g c = taken_form (world_of g.M.Meaning.meaning c.args.host.now.definitions.now c.args.host.now.primitives.now c.args.host.now.room) c.args.m.now c.take_rec.new.m c.args.strategy.now _ c.args.scope c.args.m.now.part c.take_rec.result ((c.form.ensures ∙ ap resolved_of c.in-Rec.is ∙ ap rec (sym c.deref-in-Rec.ensures))) (c.take_rec.ensures.ok (world_of g.M.Meaning.meaning c.args.host.now.definitions.now c.args.host.now.primitives.now c.args.host.now.room))
 
 pub returns-in-Prim-clause-ok : goal.returns-in-Prim-clause-ok
-returns-in-Prim-clause-ok g c = taken_form (world_of g.M.Meaning.meaning c.args.host.now.definitions.now c.args.host.now.primitives.now c.args.host.now.room) c.args.m.now c.take_prim.new.m c.args.strategy.now _ c.args.scope c.args.m.now.part c.take_prim.result ((c.form.ensures ∙ ap resolved_of c.in-Prim.is ∙ ap (λ ps. prim c.in-Prim.primitive (places_of ps)) (sym c.deref-in-Prim.ensures.value))) (c.take_prim.ensures.ok)
+returns-in-Prim-clause-ok g c = taken_form (world_of g.M.Meaning.meaning c.args.host.now.definitions.now c.args.host.now.primitives.now c.args.host.now.room) c.args.m.now c.take_prim.new.m c.args.strategy.now _ c.args.scope c.args.m.now.part c.take_prim.result ((c.form.ensures ∙ ap resolved_of c.in-Prim.is ∙ ap (λ ps. prim c.in-Prim.primitive (resolved_patterns_of ps)) (sym c.deref-in-Prim.ensures.value))) (c.take_prim.ensures.ok)
 
 pub take_rec-requires-clause-whole : goal.take_rec-requires-clause-whole
 take_rec-requires-clause-whole g c = (c.form.ensures ∙ ap resolved_of c.in-Rec.is ∙ ap rec (sym c.deref-in-Rec.ensures))

@@ -4,7 +4,7 @@ use Rattle.term_match.specs.CellContents.{CellContents}
 use Rattle.term_match.specs.Marks.{mark_of, Before, Stays}
 use Rattle.term_match.specs.declared.building.Built.{Built}
 use Rattle.term_match.specs.declared.cells.Mark.{Mark}
-use Rattle.strategy_meaning.specs.Matching.{match_place, build_place}
+use Rattle.strategy_meaning.specs.Matching.{match_pattern, build_pattern}
 use Rattle.strategy_meaning.specs.Scopes.{Scope, cells_in, with_variables}
 use Rattle.strategy_meaning.specs.Laws.{in_room}
 use Rattle.strategy_machine.specs.Table.{scopes, scope_at, scope_from}
@@ -31,7 +31,7 @@ returns-then-misses-clause-ok c = λ V s k. let W = in_room c.args.room V in rec
 pub returns-then-not-matched-clause-ok : goal.returns-then-not-matched-clause-ok
 returns-then-not-matched-clause-ok c =
     let there = one_more_is _ _ _ c.in_ok-inner.ensures.number c.in_ok-inner.ensures.ok ∙ ap (λ k. with_variables (scope_from (scopes c.args.m.now.scopes) c.args.rule.outer) k c.args.rule.count) c.count-first.ensures in
-    let found = (λ i. match_place c.args.rule.left.now (sym c.in_ok-value.ensures i) (cells_in (sym there i)) (sym c.in_ok-open_cells.ensures.ok i)) ∙ c.in_ok-matched.ensures.ok ∙ ap (λ (b : Bool). cond b (Some c.matches-found.new.self.bindings) None) c.if-not-matched.true in
+    let found = (λ i. match_pattern c.args.rule.left.now (sym c.in_ok-value.ensures i) (cells_in (sym there i)) (sym c.in_ok-open_cells.ensures.ok i)) ∙ c.in_ok-matched.ensures.ok ∙ ap (λ (b : Bool). cond b (Some c.matches-found.new.self.bindings) None) c.if-not-matched.true in
     let back = goes_back c.args.m.now.cells c.matches-found.new.self c.back_to.new.self c.mark-mark.result c.mark-mark.ensures.result c.mark-mark.ensures.kept
     (stays_on c.args.m.now.cells c.open_cells.new.self c.matches-found.new.self c.open_cells.ensures.later c.open_cells.ensures.stays c.matches-found.ensures.stays) c.back_to.ensures.cells c.back_to.ensures.mark c.back_to.ensures.stays in
     let cut = scopes_end (scopes c.args.m.now.scopes) (scopes c.add_variables.new.self) (scopes c.cut.new.self) _ c.count-scopes.result c.in_ok-inner.ensures.ok c.count-scopes.ensures c.cut.ensures in
@@ -46,16 +46,16 @@ back_to-requires c = subst (λ (x : Mark). Before x (mark_of c.matches-found.new
 pub returns-then-m-eq0-clause-ok : goal.returns-then-m-eq0-clause-ok
 returns-then-m-eq0-clause-ok c =
     let there = one_more_is _ _ _ c.in_ok-inner.ensures.number c.in_ok-inner.ensures.ok ∙ ap (λ k. with_variables (scope_from (scopes c.args.m.now.scopes) c.args.rule.outer) k c.args.rule.count) c.count-first.ensures in
-    let found = (λ i. match_place c.args.rule.left.now (sym c.in_ok-value.ensures i) (cells_in (sym there i)) (sym c.in_ok-open_cells.ensures.ok i)) ∙ c.in_ok-matched.ensures.ok ∙ ap (λ (b : Bool). cond b (Some c.matches-found.new.self.bindings) None) c.if-not-matched.false in
+    let found = (λ i. match_pattern c.args.rule.left.now (sym c.in_ok-value.ensures i) (cells_in (sym there i)) (sym c.in_ok-open_cells.ensures.ok i)) ∙ c.in_ok-matched.ensures.ok ∙ ap (λ (b : Bool). cond b (Some c.matches-found.new.self.bindings) None) c.if-not-matched.false in
     λ V s k. let W = in_room c.args.room V in record { keeps = λ sub whole h. or_matched_few W sub whole (state_of c.args.m.now) s c.args.second c.args.other c.args.scope c.args.m.now.part c.args.rule k c.matches-found.new.self.bindings found (omega (arith, c.if-m-rule.false, c.if-m-eq0.true)) h }
 
 pub returns-in-Nothing-clause-ok : goal.returns-in-Nothing-clause-ok
 returns-in-Nothing-clause-ok c =
     let there = one_more_is _ _ _ c.in_ok-inner.ensures.number c.in_ok-inner.ensures.ok ∙ ap (λ k. with_variables (scope_from (scopes c.args.m.now.scopes) c.args.rule.outer) k c.args.rule.count) c.count-first.ensures in
-    let found = (λ i. match_place c.args.rule.left.now (sym c.in_ok-value.ensures i) (cells_in (sym there i)) (sym c.in_ok-open_cells.ensures.ok i)) ∙ c.in_ok-matched.ensures.ok ∙ ap (λ (b : Bool). cond b (Some c.matches-found.new.self.bindings) None) c.if-not-matched.false in
+    let found = (λ i. match_pattern c.args.rule.left.now (sym c.in_ok-value.ensures i) (cells_in (sym there i)) (sym c.in_ok-open_cells.ensures.ok i)) ∙ c.in_ok-matched.ensures.ok ∙ ap (λ (b : Bool). cond b (Some c.matches-found.new.self.bindings) None) c.if-not-matched.false in
     let same = c.build.ensures.same in
-    let is = subst (λ (o : Built). Builds (build_place c.args.rule.right.now (cells_in (scope_at (scopes c.add_variables.new.self) c.in_ok-inner.inner)) c.matches-found.new.self.bindings) c.args.room c.args.m.now.level o) c.in-Nothing.is c.in_ok-built.ensures.ok in
-    let other = ap (λ (E : Scope). build_place c.args.rule.right.now (cells_in E) c.matches-found.new.self.bindings) (sym there) in
+    let is = subst (λ (o : Built). Builds (build_pattern c.args.rule.right.now (cells_in (scope_at (scopes c.add_variables.new.self) c.in_ok-inner.inner)) c.matches-found.new.self.bindings) c.args.room c.args.m.now.level o) c.in-Nothing.is c.in_ok-built.ensures.ok in
+    let other = ap (λ (E : Scope). build_pattern c.args.rule.right.now (cells_in E) c.matches-found.new.self.bindings) (sym there) in
     let back = goes_back c.args.m.now.cells c.build.new.self c.back_to-in-Nothing.new.self c.mark-mark.result c.mark-mark.ensures.result c.mark-mark.ensures.kept
     (subst (λ (C : CellContents). Stays (mark_of c.args.m.now.cells) c.args.m.now.cells C) (sym same) (stays_on c.args.m.now.cells c.open_cells.new.self c.matches-found.new.self c.open_cells.ensures.later c.open_cells.ensures.stays c.matches-found.ensures.stays)) c.back_to-in-Nothing.ensures.cells c.back_to-in-Nothing.ensures.mark c.back_to-in-Nothing.ensures.stays in
     let cut = scopes_end (scopes c.args.m.now.scopes) (scopes c.add_variables.new.self) (scopes c.cut-2.new.self) _ c.count-scopes.result c.in_ok-inner.ensures.ok c.count-scopes.ensures c.cut-2.ensures in
@@ -70,19 +70,19 @@ back_to-requires-in-Nothing c = subst (λ (C : CellContents). Before c.mark-mark
 pub returns-in-Big-clause-ok : goal.returns-in-Big-clause-ok
 returns-in-Big-clause-ok c =
     let there = one_more_is _ _ _ c.in_ok-inner.ensures.number c.in_ok-inner.ensures.ok ∙ ap (λ k. with_variables (scope_from (scopes c.args.m.now.scopes) c.args.rule.outer) k c.args.rule.count) c.count-first.ensures in
-    let found = (λ i. match_place c.args.rule.left.now (sym c.in_ok-value.ensures i) (cells_in (sym there i)) (sym c.in_ok-open_cells.ensures.ok i)) ∙ c.in_ok-matched.ensures.ok ∙ ap (λ (b : Bool). cond b (Some c.matches-found.new.self.bindings) None) c.if-not-matched.false in
+    let found = (λ i. match_pattern c.args.rule.left.now (sym c.in_ok-value.ensures i) (cells_in (sym there i)) (sym c.in_ok-open_cells.ensures.ok i)) ∙ c.in_ok-matched.ensures.ok ∙ ap (λ (b : Bool). cond b (Some c.matches-found.new.self.bindings) None) c.if-not-matched.false in
     let same = c.build.ensures.same in
-    let is = subst (λ (o : Built). Builds (build_place c.args.rule.right.now (cells_in (scope_at (scopes c.add_variables.new.self) c.in_ok-inner.inner)) c.matches-found.new.self.bindings) c.args.room c.args.m.now.level o) c.in-Big.is c.in_ok-built.ensures.ok in
-    let other = ap (λ (E : Scope). build_place c.args.rule.right.now (cells_in E) c.matches-found.new.self.bindings) (sym there) in
+    let is = subst (λ (o : Built). Builds (build_pattern c.args.rule.right.now (cells_in (scope_at (scopes c.add_variables.new.self) c.in_ok-inner.inner)) c.matches-found.new.self.bindings) c.args.room c.args.m.now.level o) c.in-Big.is c.in_ok-built.ensures.ok in
+    let other = ap (λ (E : Scope). build_pattern c.args.rule.right.now (cells_in E) c.matches-found.new.self.bindings) (sym there) in
     λ V s k. let W = in_room c.args.room V in record { keeps = λ sub whole h. or_big W sub whole (state_of c.args.m.now) s c.args.second c.args.other c.args.scope c.args.m.now.part c.args.rule k c.matches-found.new.self.bindings found (c.args.m.now.steps - c.args.rule.price - 1) is.0 (omega (arith, c.if-m-rule.false, c.if-m-eq0.false)) (other ∙ is.1) is.2 h }
 
 pub returns-in_ok-replace-in-Value-clause-ok : goal.returns-in_ok-replace-in-Value-clause-ok
 returns-in_ok-replace-in-Value-clause-ok c =
     let there = one_more_is _ _ _ c.in_ok-inner.ensures.number c.in_ok-inner.ensures.ok ∙ ap (λ k. with_variables (scope_from (scopes c.args.m.now.scopes) c.args.rule.outer) k c.args.rule.count) c.count-first.ensures in
-    let found = (λ i. match_place c.args.rule.left.now (sym c.in_ok-value.ensures i) (cells_in (sym there i)) (sym c.in_ok-open_cells.ensures.ok i)) ∙ c.in_ok-matched.ensures.ok ∙ ap (λ (b : Bool). cond b (Some c.matches-found.new.self.bindings) None) c.if-not-matched.false in
+    let found = (λ i. match_pattern c.args.rule.left.now (sym c.in_ok-value.ensures i) (cells_in (sym there i)) (sym c.in_ok-open_cells.ensures.ok i)) ∙ c.in_ok-matched.ensures.ok ∙ ap (λ (b : Bool). cond b (Some c.matches-found.new.self.bindings) None) c.if-not-matched.false in
     let same = c.build.ensures.same in
-    let is = subst (λ (o : Built). Builds (build_place c.args.rule.right.now (cells_in (scope_at (scopes c.add_variables.new.self) c.in_ok-inner.inner)) c.matches-found.new.self.bindings) c.args.room c.args.m.now.level o) c.in-Value.is c.in_ok-built.ensures.ok in
-    let other = ap (λ (E : Scope). build_place c.args.rule.right.now (cells_in E) c.matches-found.new.self.bindings) (sym there) in
+    let is = subst (λ (o : Built). Builds (build_pattern c.args.rule.right.now (cells_in (scope_at (scopes c.add_variables.new.self) c.in_ok-inner.inner)) c.matches-found.new.self.bindings) c.args.room c.args.m.now.level o) c.in-Value.is c.in_ok-built.ensures.ok in
+    let other = ap (λ (E : Scope). build_pattern c.args.rule.right.now (cells_in E) c.matches-found.new.self.bindings) (sym there) in
     let ended = cells_end c.args.m.now.cells c.open_cells.new.self c.build.new.self c.close_to.new.self c.count-first.result c.count-first.ensures c.open_cells.ensures.later c.open_cells.ensures.stays
     (subst (λ (C : CellContents). Before (mark_of c.open_cells.new.self) (mark_of C)) (sym same) c.matches-found.ensures.later) (subst (λ (C : CellContents). Stays (mark_of c.open_cells.new.self) c.open_cells.new.self C) (sym same) c.matches-found.ensures.stays) c.close_to.ensures.later c.close_to.ensures.stays in
     let cut = scopes_end (scopes c.args.m.now.scopes) (scopes c.add_variables.new.self) (scopes c.cut-2.new.self) _ c.count-scopes.result c.in_ok-inner.ensures.ok c.count-scopes.ensures c.cut-2.ensures in

@@ -1,5 +1,5 @@
 use Rattle.std.proofs.Common.{sym, ap, ◌∙◌}
-use Rattle.strategy_syntax.specs.Resolved.{call, resolveds_of, places_of}
+use Rattle.strategy_syntax.specs.Resolved.{call, resolveds_of, resolved_patterns_of}
 use Rattle.strategy_syntax.specs.ResolvedView.{resolved_of}
 use Rattle.strategy_machine.specs.Table.{scopes}
 use Rattle.strategy_machine.specs.Turns.{world_of}
@@ -14,4 +14,4 @@ returns-in-Param g c =
 pub returns-in-Call : goal.returns-in-Call
 returns-in-Call g c =
     let W = world_of g.M.Meaning.meaning c.args.host.now.definitions.now c.args.host.now.primitives.now c.args.host.now.room in
-    if_map c.ready_body.result (λ known k. runs_as W (scopes c.args.scopes.now) _ _ c.args.scope _ _ (c.form.ensures ∙ ap resolved_of c.in-Call.is ∙ (λ i. call c.in-Call.definition (resolveds_of (sym c.deref.ensures.value i)) (places_of (sym c.deref-in-Call.ensures.value i)))) k) c.ready_body.ensures
+    if_map c.ready_body.result (λ known k. runs_as W (scopes c.args.scopes.now) _ _ c.args.scope _ _ (c.form.ensures ∙ ap resolved_of c.in-Call.is ∙ (λ i. call c.in-Call.definition (resolveds_of (sym c.deref.ensures.value i)) (resolved_patterns_of (sym c.deref-in-Call.ensures.value i)))) k) c.ready_body.ensures
