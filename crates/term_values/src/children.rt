@@ -126,7 +126,7 @@ impl<'a, 't> Elements<'a, 't> {
         ensures { IfOk result (λ all. all.items ≡ self.entry) }
     {
         let mut left = self;
-        let mut all = Vec::with_capacity(alloc, left.room())?;
+        let mut all = Vec::with_capacity(alloc, left.first_run_len())?;
         while let Some(seen) = left.next() {
             all.push(seen.value(within)?)?;
         }

@@ -240,7 +240,7 @@ impl<'a, 't> Elements<'a, 't> {
     }
 
     /// The number of trees in the first run.
-    pub(crate) fn room(&self) -> usize {
+    pub(crate) fn first_run_len(&self) -> usize {
         self.run.len()
     }
 

@@ -96,7 +96,7 @@ fn all_owned(alloc: Global, elements: Elements<'_, '_>) -> Result<Vec<Term>, NoM
     ensures { IfOk result (λ all. all.items ≡ elements.entry) }
 {
     let mut left = elements;
-    let mut all = Vec::with_capacity(alloc, left.room())?;
+    let mut all = Vec::with_capacity(alloc, left.first_run_len())?;
     while let Some(seen) = left.next() {
         all.reserve(1)?;
         let term = match plain(alloc, seen)? {
