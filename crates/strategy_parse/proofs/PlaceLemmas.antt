@@ -18,10 +18,10 @@ use Rattle.strategy_parse.specs.declared.modules.place.SortUse.{SortUse}
 use Rattle.strategy_parse.specs.declared.modules.place.SortUse.TheVariants.{Item, Constant, Argument, Own}
 use Rattle.strategy_parse.specs.declared.modules.place.Parameters.{Parameters}
 use Rattle.strategy_parse.specs.declared.modules.place.Parameters.TheVariants.{Strategies, Terms}
-use Rattle.strategy_parse.specs.declared.modules.place.Part.{Part}
-use Rattle.strategy_parse.specs.declared.modules.place.Part.TheVariants.{Strategy as Body, Left, Right}
-use Rattle.strategy_parse.specs.declared.modules.place.Place.{Place}
-use Rattle.strategy_parse.specs.declared.modules.place.Place.TheVariants as place
+use Rattle.strategy_parse.specs.declared.modules.place.BodyPart.{BodyPart}
+use Rattle.strategy_parse.specs.declared.modules.place.BodyPart.TheVariants.{Strategy as Body, Left, Right}
+use Rattle.strategy_parse.specs.declared.modules.place.ModulePlace.{ModulePlace}
+use Rattle.strategy_parse.specs.declared.modules.place.ModulePlace.TheVariants as place
 use Rattle.strategy_parse.specs.Core.{core_module}
 use Rattle.strategy_parse.specs.inside.Fronts.{Stops}
 use Rattle.strategy_parse.specs.inside.ModuleFronts.{sorts_from, sort_goes, sort_step}
@@ -40,7 +40,7 @@ end_here p = (nothing, left_nothing p)
 sorts_end_here : (p : SortState) (d : ℕ) → sort_step p d Bad ≡ Ends → sorts_from p d 1 [] ≡ Some (1, [])
 sorts_end_here p d h = ap (sort_goes (λ q e. None) (Some (1, []))) h
 
-pub can_end : (p : Place) → CanEnd p → Rest p []
+pub can_end : (p : ModulePlace) → CanEnd p → Rest p []
 can_end (place.Between p) h = end_here p
 can_end (place.Sort Item p d) h = (1, [], sorts_end_here p d h, (refl, end_here Sorts))
 can_end (place.Sort Constant p d) h = (1, [], sorts_end_here p d h, inr (refl, end_here Constructors))
@@ -69,7 +69,7 @@ header_rest = inl (Reserved Id ∷ [], refl, body_rest)
 right_rest : InRight (Wildcard ∷ [])
 right_rest = (syntax.matches syntax.wildcard, [], refl, inl (end_here Definitions))
 
-pub part_rest : (k : Part) → (y : List Token) × Stops y × AfterPart k y
+pub part_rest : (k : BodyPart) → (y : List Token) × Stops y × AfterPart k y
 part_rest Body = ([], tt, end_here Definitions)
 part_rest Left = (ASign RightArrow ∷ (Wildcard ∷ []), refl, (Wildcard ∷ [], refl, right_rest))
 part_rest Right = ([], tt, inl (end_here Definitions))
@@ -102,7 +102,7 @@ sorts_rest u Closed d = closed_rest u d
 sorts_rest u Named d = named_rest u d
 sorts_rest u Begins d = let m : SortsRest u Named d = named_rest u d in (Ident some_name ∷ m.0, m.1)
 
-pub place_rest : (p : Place) → (x : List Token) × Rest p x
+pub place_rest : (p : ModulePlace) → (x : List Token) × Rest p x
 place_rest place.Start = ([], (core_module [], ([], ([], inr refl, refl), refl)))
 place_rest place.Titled = (Ident some_name ∷ [], (some_name, [], refl, end_here Outside))
 place_rest (place.Between p) = ([], end_here p)
@@ -120,18 +120,18 @@ place_rest (place.Body k) = let r = part_rest k in (r.0, r.2)
 
 -- ---- open brackets
 
-abbrev Opens : ℕ → Option Place → Type 0
+abbrev Opens : ℕ → Option ModulePlace → Type 0
 Opens n None = Unit {0}
 Opens n (Some q) = open_brackets q ≤ n
 
-either : (n : ℕ) (b : Bool) (X Y : Option Place) → Opens n X → Opens n Y → Opens n (if b then X else Y)
+either : (n : ℕ) (b : Bool) (X Y : Option ModulePlace) → Opens n X → Opens n Y → Opens n (if b then X else Y)
 either n true X Y h k = h
 either n false X Y h k = k
 
 none : (n : ℕ) → 0 ≤ n
 none n = omega arith
 
-named_opens : (n : ℕ) (q : Place) (t : Token) → open_brackets q ≤ n → Opens n (named q t)
+named_opens : (n : ℕ) (q : ModulePlace) (t : Token) → open_brackets q ≤ n → Opens n (named q t)
 named_opens n q (Ident f) h = h
 named_opens n q Wildcard h = tt
 named_opens n q (Reserved w) h = tt
@@ -160,7 +160,7 @@ between_opens n p (Text f) = item_opens n p (Text f)
 between_opens n p (ASign s) = item_opens n p (ASign s)
 between_opens n p Bad = item_opens n p Bad
 
-separated_opens : (n : ℕ) (t : Token) (o : Option Place) → Opens n o → Opens n (separated t o)
+separated_opens : (n : ℕ) (t : Token) (o : Option ModulePlace) → Opens n o → Opens n (separated t o)
 separated_opens n t o h =
     either n (is_mark Star t) (Some (place.Sort Argument Begins 0)) (if (is_mark RightArrow t) then Some (place.Sort Own Begins 0) else o) (none n)
     (either n (is_mark RightArrow t) (Some (place.Sort Own Begins 0)) o (none n) h)
@@ -199,12 +199,12 @@ first_opens n b (Text f) = names_opens n b (Text f)
 first_opens n b (ASign s) = names_opens n b (ASign s)
 first_opens n b Bad = names_opens n b Bad
 
-after_opens : (n : ℕ) (k : Part) (t : Token) → Opens n (after_part k t)
+after_opens : (n : ℕ) (k : BodyPart) (t : Token) → Opens n (after_part k t)
 after_opens n Body t = between_opens n Definitions t
 after_opens n Left t = either n (is_mark RightArrow t) (Some (place.Body Right)) None (none n) tt
 after_opens n Right t = either n (is_word Where t) (Some (place.Body Body)) (between Definitions t) (none n) (between_opens n Definitions t)
 
-next_opens : (p : Place) (t : Token) → Opens (open_brackets p + 1) (next_place p t)
+next_opens : (p : ModulePlace) (t : Token) → Opens (open_brackets p + 1) (next_place p t)
 next_opens place.Start t = either 1 (is_word Module t) (Some place.Titled) (between Outside t) (none 1) (between_opens 1 Outside t)
 next_opens place.Titled t = named_opens 1 (place.Between Outside) t (none 1)
 next_opens (place.Between p) t = between_opens 1 p t
@@ -217,5 +217,5 @@ next_opens (place.Comma b) t = named_opens 1 (place.Name b) t (none 1)
 next_opens place.Headed t = header_opens 1 t
 next_opens (place.Body k) t = after_opens 1 k t
 
-pub next_deeper : (p q : Place) (t : Token) → next_place p t ≡ Some q → open_brackets q ≤ open_brackets p + 1
+pub next_deeper : (p q : ModulePlace) (t : Token) → next_place p t ≡ Some q → open_brackets q ≤ open_brackets p + 1
 next_deeper p q t e = subst (Opens (open_brackets p + 1)) e (next_opens p t)

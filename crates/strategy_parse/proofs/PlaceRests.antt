@@ -17,10 +17,10 @@ use Rattle.strategy_parse.specs.declared.modules.place.SortUse.{SortUse}
 use Rattle.strategy_parse.specs.declared.modules.place.SortUse.TheVariants.{Item, Constant, Argument, Own}
 use Rattle.strategy_parse.specs.declared.modules.place.Parameters.{Parameters}
 use Rattle.strategy_parse.specs.declared.modules.place.Parameters.TheVariants.{Strategies}
-use Rattle.strategy_parse.specs.declared.modules.place.Part.{Part}
-use Rattle.strategy_parse.specs.declared.modules.place.Part.TheVariants.{Strategy as Body, Left, Right}
-use Rattle.strategy_parse.specs.declared.modules.place.Place.{Place}
-use Rattle.strategy_parse.specs.declared.modules.place.Place.TheVariants as place
+use Rattle.strategy_parse.specs.declared.modules.place.BodyPart.{BodyPart}
+use Rattle.strategy_parse.specs.declared.modules.place.BodyPart.TheVariants.{Strategy as Body, Left, Right}
+use Rattle.strategy_parse.specs.declared.modules.place.ModulePlace.{ModulePlace}
+use Rattle.strategy_parse.specs.declared.modules.place.ModulePlace.TheVariants as place
 use Rattle.strategy_parse.specs.declared.parser.state.ParserState.{ParserState}
 use Rattle.strategy_parse.specs.declared.parser.state.ParserState.TheVariants.{Strategy as ToStrategy, Pattern as ToPattern}
 use Rattle.strategy_parse.specs.Grammar.{◌▸◌, Mark, ReadsNames, ReadsMoreNames}
@@ -68,7 +68,7 @@ InLeft x = Form ToPattern AfterLeft x
 abbrev pub AfterHeader : List Token → Type 0
 AfterHeader x = AfterMark Equals InBody x ⊎ AfterMark Colon InLeft x
 
-abbrev pub AfterPart : Part → List Token → Type 0
+abbrev pub AfterPart : BodyPart → List Token → Type 0
 AfterPart Body y = Parts Definitions y
 AfterPart Left y = AfterLeft y
 AfterPart Right y = AfterRight y
@@ -113,7 +113,7 @@ InSorts u p d x = (c : ℕ) × (y : List Token) × (sorts_from p d 1 x ≡ Some 
 -- ---- at each place
 
 -- the part of a definition before the place is whole
-abbrev pub Rest : Place → List Token → Type 0
+abbrev pub Rest : ModulePlace → List Token → Type 0
 Rest place.Start x = GiveModule x
 Rest place.Titled x = AfterIdent (Parts Outside) x
 Rest (place.Between p) x = Parts p x
@@ -127,6 +127,6 @@ Rest place.Headed x = AfterHeader x
 Rest (place.Body k) x = AfterPart k x
 
 -- a part of a definition begins at the place
-abbrev pub Begun : Place → List Token → Type 0
+abbrev pub Begun : ModulePlace → List Token → Type 0
 Begun (place.Body k) x = Form (first_of k) (AfterPart k) x
 Begun q x = Rest q x

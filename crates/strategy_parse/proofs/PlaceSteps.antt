@@ -24,10 +24,10 @@ use Rattle.strategy_parse.specs.declared.modules.place.SortUse.{SortUse}
 use Rattle.strategy_parse.specs.declared.modules.place.SortUse.TheVariants.{Item, Constant, Argument, Own}
 use Rattle.strategy_parse.specs.declared.modules.place.Parameters.{Parameters}
 use Rattle.strategy_parse.specs.declared.modules.place.Parameters.TheVariants.{Strategies, Terms}
-use Rattle.strategy_parse.specs.declared.modules.place.Part.{Part}
-use Rattle.strategy_parse.specs.declared.modules.place.Part.TheVariants.{Strategy as Body, Left, Right}
-use Rattle.strategy_parse.specs.declared.modules.place.Place.{Place}
-use Rattle.strategy_parse.specs.declared.modules.place.Place.TheVariants as place
+use Rattle.strategy_parse.specs.declared.modules.place.BodyPart.{BodyPart}
+use Rattle.strategy_parse.specs.declared.modules.place.BodyPart.TheVariants.{Strategy as Body, Left, Right}
+use Rattle.strategy_parse.specs.declared.modules.place.ModulePlace.{ModulePlace}
+use Rattle.strategy_parse.specs.declared.modules.place.ModulePlace.TheVariants as place
 use Rattle.strategy_parse.specs.Written.{Sort, Sorts as SortList, no_sorts, and_sort, Declaration, constant, function, Defined, definition, rule, rule_where}
 use Rattle.strategy_parse.specs.Grammar.{ReadsNames, ReadsMoreNames, Mark}
 use Rattle.strategy_parse.specs.GrammarModules.{ReadsSort, ReadsMoreSorts, ReadsDeclaration, ReadsDefined}
@@ -47,11 +47,11 @@ use Rattle.strategy_parse.proofs.TitleLemmas.{titled, untitled, title_forth, pla
 use Rattle.strategy_parse.proofs.PlaceRests.{Parts, AfterMark, AfterIdent, InBody, AfterRight, InRight, InLeft, AfterHeader, InTerms, AfterNames, InNames, InMoreNames, Brackets, InHeader, InOwn, AfterSorts, InSorts, Rest, Begun}
 
 -- the rest after the token is that of the next place
-pub record Steps (p : Place) (t : Token) (q : Place) : Type 0 where
+pub record Steps (p : ModulePlace) (t : Token) (q : ModulePlace) : Type 0 where
   pub forth : (x : List Token) → Rest p (t ∷ x) → Begun q x
   pub back : (x : List Token) → Begun q x → Rest p (t ∷ x)
 
-abbrev pub StepIs : Place → Token → Option Place → Type 0
+abbrev pub StepIs : ModulePlace → Token → Option ModulePlace → Type 0
 StepIs p t None = (x : List Token) → Rest p (t ∷ x) → ⊥
 StepIs p t (Some q) = Steps p t q
 
@@ -66,13 +66,13 @@ tails t u x z e = cc
 not_mark : (m : Sign) (t : Token) → is_mark m t ≡ false → t ≡ ASign m → ⊥
 not_mark m t e h = let non : true ≡ false = sym (mark_self m) ∙ ap (is_mark m) (sym h) ∙ e in cc
 
-by_mark : (m : Sign) (p : Place) (t : Token) (X Y : Option Place) → (t ≡ ASign m → StepIs p t X) → ((t ≡ ASign m → ⊥) → StepIs p t Y) → StepIs p t (if (is_mark m t) then X else Y)
+by_mark : (m : Sign) (p : ModulePlace) (t : Token) (X Y : Option ModulePlace) → (t ≡ ASign m → StepIs p t X) → ((t ≡ ASign m → ⊥) → StepIs p t Y) → StepIs p t (if (is_mark m t) then X else Y)
 by_mark m p t X Y h k = at (is_mark m t) refl where
   at : (b : Bool) → is_mark m t ≡ b → StepIs p t (if b then X else Y)
   at true e = h (mark_is m t e)
   at false e = k (not_mark m t e)
 
-by_word : (w : Keyword) (p : Place) (t : Token) (X Y : Option Place) → (t ≡ Reserved w → StepIs p t X) → (is_word w t ≡ false → StepIs p t Y) → StepIs p t (if (is_word w t) then X else Y)
+by_word : (w : Keyword) (p : ModulePlace) (t : Token) (X Y : Option ModulePlace) → (t ≡ Reserved w → StepIs p t X) → (is_word w t ≡ false → StepIs p t Y) → StepIs p t (if (is_word w t) then X else Y)
 by_word w p t X Y h k = at (is_word w t) refl where
   at : (b : Bool) → is_word w t ≡ b → StepIs p t (if b then X else Y)
   at true e = h (word_is w t e)
@@ -90,7 +90,7 @@ mark_none m K t x non (z, e, k) = non (heads t (ASign m) x z e)
 abbrev IsIdent : Token → Type 0
 IsIdent t = (f : Symbol) × (t ≡ Ident f)
 
-by_name : (p q : Place) (t : Token) → ((f : Symbol) → Steps p (Ident f) q) → ((x : List Token) → Rest p (t ∷ x) → IsIdent t) → StepIs p t (named q t)
+by_name : (p q : ModulePlace) (t : Token) → ((f : Symbol) → Steps p (Ident f) q) → ((x : List Token) → Rest p (t ∷ x) → IsIdent t) → StepIs p t (named q t)
 by_name p q (Ident f) h only = h f
 by_name p q Wildcard h only = λ x r. let i : IsIdent Wildcard = only x r in let non : Wildcard ≡ Ident i.0 = i.1 in cc
 by_name p q (Reserved w) h only = λ x r. let i : IsIdent (Reserved w) = only x r in let non : Reserved w ≡ Ident i.0 = i.1 in cc
@@ -106,7 +106,7 @@ ident_is : (K : List Token → Type 0) (t : Token) (x : List Token) → AfterIde
 ident_is K t x (g, z, e, k) = (g, heads t (Ident g) x z e)
 
 -- two places with the same rest lead to the same places
-same_step : (p q : Place) (t : Token) (o : Option Place) → ((x : List Token) → Rest p (t ∷ x) → Rest q (t ∷ x)) → ((x : List Token) → Rest q (t ∷ x) → Rest p (t ∷ x)) → StepIs q t o → StepIs p t o
+same_step : (p q : ModulePlace) (t : Token) (o : Option ModulePlace) → ((x : List Token) → Rest p (t ∷ x) → Rest q (t ∷ x)) → ((x : List Token) → Rest q (t ∷ x) → Rest p (t ∷ x)) → StepIs q t o → StepIs p t o
 same_step p q t None to from h = λ x r. h x (to x r)
 same_step p q t (Some n) to from h = record { forth = λ x r. h.forth x (to x r); back = λ x r. from x (h.back x r) }
 
@@ -373,7 +373,7 @@ module _ (u : SortUse) (p : SortState) (d : ℕ) (t : Token) where
     -- sorts that a star or an arrow may follow
     separated_is : ((c : ℕ) (y : List Token) → (c ≡ 1 → ⊥) → AfterSorts u c y → AfterMark RightArrow InOwn y) → ((c : ℕ) (y : List Token) → AfterMark RightArrow InOwn y → AfterSorts u c y)
         → ((x : List Token) → AfterSorts u 1 (ASign RightArrow ∷ x) → AfterMark RightArrow InOwn (ASign RightArrow ∷ x))
-        → (o : Option Place) → (is_mark Star t ≡ false → (t ≡ ASign RightArrow → ⊥) → StepIs (place.Sort u p d) t o) → StepIs (place.Sort u p d) t (separated t o)
+        → (o : Option ModulePlace) → (is_mark Star t ≡ false → (t ≡ ASign RightArrow → ⊥) → StepIs (place.Sort u p d) t o) → StepIs (place.Sort u p d) t (separated t o)
     separated_is to from arrow o other = at (is_mark Star t) refl where
       at : (b : Bool) → is_mark Star t ≡ b → StepIs (place.Sort u p d) t (if b then Some (place.Sort Argument Begins 0) else if (is_mark RightArrow t) then Some (place.Sort Own Begins 0) else o)
       at true e = record {
@@ -467,7 +467,7 @@ header_is t =
 abbrev NamesEnd : Parameters → List Token → Type 0
 NamesEnd b x = (m : Sign) × (y : List Token) × (x ≡ ASign m ∷ y) × AfterNames b m y
 
-module _ (p : Place) (t : Token) where
+module _ (p : ModulePlace) (t : Token) where
   closes : (b : Parameters) → t ≡ ASign CloseRound → (x : List Token) → NamesEnd b (t ∷ x) → AfterHeader x
   closes b e x (m, y, h, (inl (same, k))) = subst AfterHeader (sym (tails t (ASign m) x y h)) k
   closes b e x (m, y, h, (inr (first, same, k))) =
@@ -551,7 +551,7 @@ name_is b t =
 
 -- ---- after a part of a definition
 
-part_step : (k : Part) (t : Token) → StepIs (place.Body k) t (after_part k t)
+part_step : (k : BodyPart) (t : Token) → StepIs (place.Body k) t (after_part k t)
 part_step Body t = same_step (place.Body Body) (place.Between Definitions) t (between Definitions t) (λ x r. r) (λ x r. r) (between_is Definitions t)
 part_step Left t =
     by_mark RightArrow (place.Body Left) t (Some (place.Body Right)) None
@@ -571,7 +571,7 @@ part_step Right t =
 
 -- ---- at each place
 
-pub step_is : (p : Place) (t : Token) → StepIs p t (next_place p t)
+pub step_is : (p : ModulePlace) (t : Token) → StepIs p t (next_place p t)
 step_is place.Start t = start_is t
 step_is place.Titled t =
     by_name place.Titled (place.Between Outside) t (λ f. record { forth = ident_out (Parts Outside) f; back = λ x r. (f, x, refl, r) }) (ident_is (Parts Outside) t)

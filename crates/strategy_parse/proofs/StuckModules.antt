@@ -7,9 +7,9 @@ use Rattle.strategy_syntax.specs.Syntax.{Strategy}
 use Rattle.strategy_syntax.specs.Modules as syntax
 use Rattle.strategy_tokens.specs.declared.token.Token.{Token}
 use Rattle.strategy_parse.specs.declared.modules.sections.Context.TheVariants.{Outside}
-use Rattle.strategy_parse.specs.declared.modules.place.Part.{Part}
-use Rattle.strategy_parse.specs.declared.modules.place.Place.{Place}
-use Rattle.strategy_parse.specs.declared.modules.place.Place.TheVariants as place
+use Rattle.strategy_parse.specs.declared.modules.place.BodyPart.{BodyPart}
+use Rattle.strategy_parse.specs.declared.modules.place.ModulePlace.{ModulePlace}
+use Rattle.strategy_parse.specs.declared.modules.place.ModulePlace.TheVariants as place
 use Rattle.strategy_parse.specs.Core.{core_module}
 use Rattle.strategy_parse.specs.Gives.{GivesModule}
 use Rattle.strategy_parse.specs.StuckModules.{GiveModule, GiveNone, BeginModule, BeginNoModule, ModuleStuckAt}
@@ -44,7 +44,7 @@ Alike [] x = x ≡ []
 Alike (t ∷ ts) x = (x ≡ []) ⊎ ((z : List Token) × (x ≡ t ∷ z))
 
 -- After these tokens and before those left, the place stands: what makes a module with them is the rest at the place.
-pub record Stands (p : Place) (front left : List Token) : Type 0 where
+pub record Stands (p : ModulePlace) (front left : List Token) : Type 0 where
   pub forth : (x : List Token) → Alike left x → GiveModule (front ++ x) → Rest p x
   pub back : (x : List Token) → Alike left x → Rest p x → GiveModule (front ++ x)
 
@@ -56,22 +56,22 @@ Blocked front (t ∷ ts) = BeginNoModule (front ++ t ∷ [])
 -- ---- a part of a definition is passed
 
 -- at the place, after these tokens, a part of a definition may begin
-pub record Enters (p : Place) (front : List Token) : Type 0 where
+pub record Enters (p : ModulePlace) (front : List Token) : Type 0 where
   pub forth : (x : List Token) → GiveModule (front ++ x) → Begun p x
   pub back : (x : List Token) → Begun p x → GiveModule (front ++ x)
 
-abbrev pub Onward : Place → List Token → Bool → List Token → Type 0
+abbrev pub Onward : ModulePlace → List Token → Bool → List Token → Type 0
 Onward p front true left = Stands p front left
 Onward p front false left = Blocked front left
 
-pub record Across (p : Place) (front x : List Token) (b : Bool) (y : List Token) : Type 0 where
+pub record Across (p : ModulePlace) (front x : List Token) (b : Bool) (y : List Token) : Type 0 where
   pub past : List Token
   pub splits : x ≡ past ++ y
   pub begins : BeginModule (front ++ past)
   pub next : Onward p (front ++ past) b y
 
 -- no part begins: no token is passed
-plain : (p : Place) (front x : List Token) (b : Bool) (y : List Token) → ((z : List Token) → GiveModule (front ++ z) → Rest p z) → ((z : List Token) → Rest p z → GiveModule (front ++ z)) → (b ≡ true) × (y ≡ x) → Across p front x b y
+plain : (p : ModulePlace) (front x : List Token) (b : Bool) (y : List Token) → ((z : List Token) → GiveModule (front ++ z) → Rest p z) → ((z : List Token) → Rest p z → GiveModule (front ++ z)) → (b ≡ true) × (y ≡ x) → Across p front x b y
 plain p front x false y to from (non, e) = absurd (cc)
 plain p front x true y to from (star, e) = record {
   past = [];
@@ -80,7 +80,7 @@ plain p front x true y to from (star, e) = record {
   next = subst (λ f. Stands p f y) (sym (append-nil front)) (record { forth = λ z a g. to z g; back = λ z a r. from z r });
 }
 
-module _ (k : Part) (front x : List Token) (y : List Token) (e : Enters (place.Body k) front) where
+module _ (k : BodyPart) (front x : List Token) (y : List Token) (e : Enters (place.Body k) front) where
   module _ (b : Bool) (h : Passed (first_of k) x b y) where
     -- some tokens make the whole a module
     goes_on : BeginModule (front ++ h.taken)
@@ -131,7 +131,7 @@ module _ (k : Part) (front x : List Token) (y : List Token) (e : Enters (place.B
       non : (rest : List Token) → Begun (place.Body k) (h.taken ++ t ∷ rest) → ⊥
       non rest (f, w, r, after) = let none : ◌≡◌ {A = Option (Strategy × List Token)} None (Some (f, w)) = sym (s rest) ∙ r in cc
 
-across : (p : Place) (front x : List Token) (b : Bool) (y : List Token) → (e : Enters p front) → Crossed p x b y → Across p front x b y
+across : (p : ModulePlace) (front x : List Token) (b : Bool) (y : List Token) → (e : Enters p front) → Crossed p x b y → Across p front x b y
 across (place.Body k) front x true y e h = whole k front x y e h
 across (place.Body k) front x false y e h = stops k front x y e h
 across place.Start front x b y e h = plain place.Start front x b y e.forth e.back h
@@ -173,7 +173,7 @@ stuck_at ts front (t ∷ u) i k e begins blocked before order size =
 
 -- ---- the loop from place to place
 
-pub record Following (ts : List Token) (p : Place) (i : ℕ) (y : List Token) : Type 0 where
+pub record Following (ts : List Token) (p : ModulePlace) (i : ℕ) (y : List Token) : Type 0 where
   pub front : List Token
   pub splits : ts ≡ front ++ y
   pub stands : Stands p front y
@@ -194,7 +194,7 @@ follow_starts ts = record {
 }
 
 -- an item may end before the tokens left
-pub follow_item : (ts : List Token) (p : Place) (i : ℕ) (y : List Token) (j : ℕ) → Following ts p i y → (j ≡ i) ⊎ ((j ≡ length ts - length y) × CanEnd p) → Following ts p j y
+pub follow_item : (ts : List Token) (p : ModulePlace) (i : ℕ) (y : List Token) (j : ℕ) → Following ts p i y → (j ≡ i) ⊎ ((j ≡ length ts - length y) × CanEnd p) → Following ts p j y
 follow_item ts p i y j f (inl same) = subst (λ n. Following ts p n y) (sym same) f
 follow_item ts p i y j f (inr (same, can)) = subst (λ n. Following ts p n y) (sym same) (record {
   front = f.front;
@@ -213,7 +213,7 @@ follow_item ts p i y j f (inr (same, can)) = subst (λ n. Following ts p n y) (s
   empty [] = refl
   empty (t ∷ u) = inl refl
 
-module _ (ts : List Token) (p : Place) (i : ℕ) (y : List Token) (t : Token) (u : List Token) (f : Following ts p i y) (e : y ≡ t ∷ u) where
+module _ (ts : List Token) (p : ModulePlace) (i : ℕ) (y : List Token) (t : Token) (u : List Token) (f : Following ts p i y) (e : y ≡ t ∷ u) where
   alike : (x : List Token) → Alike y (t ∷ x)
   alike x = subst (λ l. Alike l (t ∷ x)) (sym e) (inr (x, refl))
 
@@ -225,7 +225,7 @@ module _ (ts : List Token) (p : Place) (i : ℕ) (y : List Token) (t : Token) (u
       stuck_at ts f.front y i (length ts - length y) f.splits f.begins (subst (Blocked f.front) (sym e) (λ rest m g.
       non rest (f.stands.forth (t ∷ rest) (alike rest) (m, subst (λ l. GivesModule l m) (append_assoc f.front (t ∷ []) rest) g)))) f.module_before order (omega arith)
 
-  module _ (q : Place) (next : next_place p t ≡ Some q) (b : Bool) (z : List Token) (crossed : Crossed q u b z) where
+  module _ (q : ModulePlace) (next : next_place p t ≡ Some q) (b : Bool) (z : List Token) (crossed : Crossed q u b z) where
     entered : Enters q (f.front ++ t ∷ [])
     entered =
         let s : Steps p t q = subst (StepIs p t) next (step_is p t) in
@@ -249,7 +249,7 @@ module _ (ts : List Token) (p : Place) (i : ℕ) (y : List Token) (t : Token) (u
         let sum : length u ≡ length a.past + length z = ap length a.splits ∙ length-append a.past z in
         omega arith
 
-pub follow_goes : (ts : List Token) (p : Place) (i : ℕ) (y : List Token) (t : Token) (u : List Token) (q : Place) (z : List Token)
+pub follow_goes : (ts : List Token) (p : ModulePlace) (i : ℕ) (y : List Token) (t : Token) (u : List Token) (q : ModulePlace) (z : List Token)
     → Following ts p i y → y ≡ t ∷ u → next_place p t ≡ Some q → Crossed q u true z → Following ts q i z
 follow_goes ts p i y t u q z f e next crossed =
     let a : Across q (f.front ++ t ∷ []) u true z = crossing ts p i y t u f e q next true z crossed in
@@ -267,7 +267,7 @@ follow_goes ts p i y t u q z f e next crossed =
       depth = omega arith;
     }
 
-pub follow_halts : (ts : List Token) (p : Place) (i : ℕ) (y : List Token) (t : Token) (u : List Token) (q : Place) (z : List Token)
+pub follow_halts : (ts : List Token) (p : ModulePlace) (i : ℕ) (y : List Token) (t : Token) (u : List Token) (q : ModulePlace) (z : List Token)
     → Following ts p i y → y ≡ t ∷ u → next_place p t ≡ Some q → Crossed q u false z → ModuleStuckAt ts i (length ts - length z)
 follow_halts ts p i y t u q z f e next crossed =
     let a : Across q (f.front ++ t ∷ []) u false z = crossing ts p i y t u f e q next false z crossed in
@@ -275,6 +275,6 @@ follow_halts ts p i y t u q z f e next crossed =
     let order : i + length y ≤ length ts = f.order in
     stuck_at ts ((f.front ++ t ∷ []) ++ a.past) z i (length ts - length z) (all ts p i y t u f e q next false z crossed a) a.begins a.next f.module_before (omega arith) (omega arith)
 
-pub follow_ends : (ts : List Token) (p : Place) (i : ℕ) (y : List Token) → Following ts p i y → length y ≡ 0 → ModuleStuckAt ts i (length ts)
+pub follow_ends : (ts : List Token) (p : ModulePlace) (i : ℕ) (y : List Token) → Following ts p i y → length y ≡ 0 → ModuleStuckAt ts i (length ts)
 follow_ends ts p i (t ∷ u) f none = absurd (omega arith)
 follow_ends ts p i [] f none = stuck_at ts f.front [] i (length ts) f.splits f.begins tt f.module_before f.order (omega arith)

@@ -15,10 +15,10 @@ use Rattle.strategy_parse.specs.declared.modules.place.SortUse.{SortUse}
 use Rattle.strategy_parse.specs.declared.modules.place.SortUse.TheVariants.{Item, Constant, Argument, Own}
 use Rattle.strategy_parse.specs.declared.modules.place.Parameters.{Parameters}
 use Rattle.strategy_parse.specs.declared.modules.place.Parameters.TheVariants.{Strategies, Terms}
-use Rattle.strategy_parse.specs.declared.modules.place.Part.{Part}
-use Rattle.strategy_parse.specs.declared.modules.place.Part.TheVariants.{Strategy, Left, Right}
-use Rattle.strategy_parse.specs.declared.modules.place.Place.{Place}
-use Rattle.strategy_parse.specs.declared.modules.place.Place.TheVariants.{Start, Titled, Between, Declared, Sort, Header, FirstName, Name, Comma as AfterComma, Headed, Body}
+use Rattle.strategy_parse.specs.declared.modules.place.BodyPart.{BodyPart}
+use Rattle.strategy_parse.specs.declared.modules.place.BodyPart.TheVariants.{Strategy, Left, Right}
+use Rattle.strategy_parse.specs.declared.modules.place.ModulePlace.{ModulePlace}
+use Rattle.strategy_parse.specs.declared.modules.place.ModulePlace.TheVariants.{Start, Titled, Between, Declared, Sort, Header, FirstName, Name, Comma as AfterComma, Headed, Body}
 use Rattle.strategy_parse.specs.declared.parser.state.ParserState.{ParserState}
 use Rattle.strategy_parse.specs.declared.parser.state.ParserState.TheVariants.{Strategy as ToStrategy, Pattern as ToPattern}
 use Rattle.strategy_parse.specs.inside.ModuleFronts.{sort_step}
@@ -26,77 +26,77 @@ use Rattle.strategy_parse.specs.inside.Sections.{next_context}
 use Rattle.strategy_parse.specs.inside.StuckPlaces.{Passed}
 
 -- an identifier, which leads to the place
-abbrev pub named : Place → Token → Option Place
+abbrev pub named : ModulePlace → Token → Option ModulePlace
 named q (Ident f) = Some q
 named q t = None
 
 -- ---- between items
 
-abbrev pub item : Context → Token → Option Place
+abbrev pub item : Context → Token → Option ModulePlace
 item Outside t = None
 item InSignature t = None
 item Sorts t = named (Sort Item Named 0) t
 item Constructors t = if (is_mark Colon t) then Some (Sort Argument Begins 0) else named Declared t
 item Definitions t = named Header t
 
-abbrev pub part : Option Context → Option Place
+abbrev pub part : Option Context → Option ModulePlace
 part None = None
 part (Some q) = Some (Between q)
 
-abbrev pub between : Context → Token → Option Place
+abbrev pub between : Context → Token → Option ModulePlace
 between p (Reserved w) = part (next_context p w)
 between p t = item p t
 
 -- ---- sorts
 
 -- what separates the sorts of a declaration
-abbrev pub separated : Token → Option Place → Option Place
+abbrev pub separated : Token → Option ModulePlace → Option ModulePlace
 separated t other =
     if (is_mark Star t) then Some (Sort Argument Begins 0) else
     if (is_mark RightArrow t) then Some (Sort Own Begins 0) else other
 
 -- after a whole sort
-abbrev pub sort_ended : SortUse → Token → Option Place
+abbrev pub sort_ended : SortUse → Token → Option ModulePlace
 sort_ended Item t = between Sorts t
 sort_ended Own t = between Constructors t
 sort_ended Constant t = separated t (between Constructors t)
 sort_ended Argument t = separated t None
 
-abbrev pub sort_next : SortUse → Token → Turn → Option Place
+abbrev pub sort_next : SortUse → Token → Turn → Option ModulePlace
 sort_next u t (Reads p d) = Some (Sort u p d)
 sort_next u t Ends = sort_ended u t
 sort_next u t Stuck = None
 
 -- ---- definitions
 
-abbrev pub after_header : Token → Option Place
+abbrev pub after_header : Token → Option ModulePlace
 after_header t =
     if (is_mark Equals t) then Some (Body Strategy) else
     if (is_mark Colon t) then Some (Body Left) else None
 
 -- after names of parameters
-abbrev pub terms_next : Parameters → Option Place
+abbrev pub terms_next : Parameters → Option ModulePlace
 terms_next Strategies = Some (FirstName Terms)
 terms_next Terms = None
 
-abbrev pub after_names : Parameters → Token → Option Place
+abbrev pub after_names : Parameters → Token → Option ModulePlace
 after_names b t =
     if (is_mark CloseRound t) then Some Headed else
     if (is_mark Bar t) then terms_next b else None
 
-abbrev pub first_name : Parameters → Token → Option Place
+abbrev pub first_name : Parameters → Token → Option ModulePlace
 first_name b (Ident f) = Some (Name b)
 first_name b t = after_names b t
 
 -- after a whole part of a definition
-abbrev pub after_part : Part → Token → Option Place
+abbrev pub after_part : BodyPart → Token → Option ModulePlace
 after_part Strategy t = between Definitions t
 after_part Left t = if (is_mark RightArrow t) then Some (Body Right) else None
 after_part Right t = if (is_word Where t) then Some (Body Strategy) else between Definitions t
 
 -- ---- one token
 
-abbrev pub next_place : Place → Token → Option Place
+abbrev pub next_place : ModulePlace → Token → Option ModulePlace
 next_place Start t = if (is_word Module t) then Some Titled else between Outside t
 next_place Titled t = named (Between Outside) t
 next_place (Between p) t = between p t
@@ -111,12 +111,12 @@ next_place Headed t = after_header t
 next_place (Body k) t = after_part k t
 
 -- the open brackets of a sort
-abbrev pub open_brackets : Place → ℕ
+abbrev pub open_brackets : ModulePlace → ℕ
 open_brackets (Sort u p d) = d
 open_brackets q = 0
 
 -- an item may be whole here
-abbrev pub CanEnd : Place → Type 0
+abbrev pub CanEnd : ModulePlace → Type 0
 CanEnd (Between p) = Unit {0}
 CanEnd (Sort Item p d) = sort_step p d Bad ≡ Ends
 CanEnd (Sort Constant p d) = sort_step p d Bad ≡ Ends
@@ -129,12 +129,12 @@ CanEnd q = ⊥
 
 -- ---- the parts of definitions
 
-abbrev pub first_of : Part → ParserState
+abbrev pub first_of : BodyPart → ParserState
 first_of Strategy = ToStrategy
 first_of Left = ToPattern
 first_of Right = ToPattern
 
 -- a part of a definition is passed where one begins
-abbrev pub Crossed : Place → List Token → Bool → List Token → Type 0
+abbrev pub Crossed : ModulePlace → List Token → Bool → List Token → Type 0
 Crossed (Body k) x ended y = Passed (first_of k) x ended y
 Crossed q x ended y = (ended ≡ true) × (y ≡ x)

@@ -37,7 +37,7 @@ pub enum Parameters {
 
 /// A part of a definition that the machine reads.
 #[derive(Clone, Copy)]
-pub enum Part {
+pub enum BodyPart {
     /// The body, or the condition of a rule
     Strategy,
     /// The left side of a rule
@@ -48,7 +48,7 @@ pub enum Part {
 
 /// A place in a module, by what was read last.
 #[derive(Clone, Copy)]
-pub enum Place {
+pub enum ModulePlace {
     /// Nothing
     Start,
     /// `module`
@@ -70,55 +70,55 @@ pub enum Place {
     /// A header
     Headed,
     /// A part of a definition: where one begins, and after it
-    Body(Part),
+    Body(BodyPart),
 }
 
 /// The place after the token, if a module goes on with it. A part of a definition is whole.
-pub fn next_place(place: Place, token: &Token) -> Option<Place>
+pub fn next_place(place: ModulePlace, token: &Token) -> Option<ModulePlace>
     requires { open_brackets place < 2 ^ 63 }
     ensures { result ≡ next_place place token.now }
 {
     match place {
-        Place::Start => {
+        ModulePlace::Start => {
             if is_word(token, Keyword::Module) {
-                return Some(Place::Titled);
+                return Some(ModulePlace::Titled);
             }
             between(Context::Outside, token)
         }
-        Place::Titled => named(Place::Between(Context::Outside), token),
-        Place::Between(context) => between(context, token),
-        Place::Declared => {
+        ModulePlace::Titled => named(ModulePlace::Between(Context::Outside), token),
+        ModulePlace::Between(context) => between(context, token),
+        ModulePlace::Declared => {
             if is_mark(token, Sign::Colon) {
-                return Some(Place::Sort(SortUse::Constant, SortState::Begins, 0));
+                return Some(ModulePlace::Sort(SortUse::Constant, SortState::Begins, 0));
             }
             None
         }
-        Place::Sort(part, state, depth) => match sort_step(state, depth, token) {
-            Turn::Reads(next, open) => Some(Place::Sort(part, next, open)),
+        ModulePlace::Sort(part, state, depth) => match sort_step(state, depth, token) {
+            Turn::Reads(next, open) => Some(ModulePlace::Sort(part, next, open)),
             Turn::Ends => sort_ended(part, token),
             Turn::Stuck => None,
         },
-        Place::Header => {
+        ModulePlace::Header => {
             if is_mark(token, Sign::OpenRound) {
-                return Some(Place::FirstName(Parameters::Strategies));
+                return Some(ModulePlace::FirstName(Parameters::Strategies));
             }
             after_header(token)
         }
-        Place::FirstName(parameters) => first_name(parameters, token),
-        Place::Name(parameters) => {
+        ModulePlace::FirstName(parameters) => first_name(parameters, token),
+        ModulePlace::Name(parameters) => {
             if is_mark(token, Sign::Comma) {
-                return Some(Place::Comma(parameters));
+                return Some(ModulePlace::Comma(parameters));
             }
             after_names(parameters, token)
         }
-        Place::Comma(parameters) => named(Place::Name(parameters), token),
-        Place::Headed => after_header(token),
-        Place::Body(part) => after_part(part, token),
+        ModulePlace::Comma(parameters) => named(ModulePlace::Name(parameters), token),
+        ModulePlace::Headed => after_header(token),
+        ModulePlace::Body(part) => after_part(part, token),
     }
 }
 
 // An identifier has to come, which leads to the place.
-fn named(place: Place, token: &Token) -> Option<Place>
+fn named(place: ModulePlace, token: &Token) -> Option<ModulePlace>
     ensures { result ≡ named place token.now }
 {
     match token {
@@ -129,39 +129,39 @@ fn named(place: Place, token: &Token) -> Option<Place>
 
 // ---- between items
 
-fn between(context: Context, token: &Token) -> Option<Place>
+fn between(context: Context, token: &Token) -> Option<ModulePlace>
     ensures { result ≡ between context token.now }
 {
     if let Token::Reserved(word) = token {
         return match next_context(context, *word) {
-            Some(next) => Some(Place::Between(next)),
+            Some(next) => Some(ModulePlace::Between(next)),
             None => None,
         };
     }
     item(context, token)
 }
 
-fn item(context: Context, token: &Token) -> Option<Place>
+fn item(context: Context, token: &Token) -> Option<ModulePlace>
     ensures { result ≡ item context token.now }
 {
     match context {
         Context::Outside => None,
         Context::Signature => None,
-        Context::Sorts => named(Place::Sort(SortUse::Item, SortState::Named, 0), token),
+        Context::Sorts => named(ModulePlace::Sort(SortUse::Item, SortState::Named, 0), token),
         Context::Constructors => {
             if is_mark(token, Sign::Colon) {
-                return Some(Place::Sort(SortUse::Argument, SortState::Begins, 0));
+                return Some(ModulePlace::Sort(SortUse::Argument, SortState::Begins, 0));
             }
-            named(Place::Declared, token)
+            named(ModulePlace::Declared, token)
         }
-        Context::Definitions => named(Place::Header, token),
+        Context::Definitions => named(ModulePlace::Header, token),
     }
 }
 
 // ---- sorts
 
 // After a whole sort.
-fn sort_ended(part: SortUse, token: &Token) -> Option<Place>
+fn sort_ended(part: SortUse, token: &Token) -> Option<ModulePlace>
     ensures { result ≡ sort_ended part token.now }
 {
     match part {
@@ -173,50 +173,50 @@ fn sort_ended(part: SortUse, token: &Token) -> Option<Place>
 }
 
 // What separates the sorts of a declaration comes next, or else another token.
-fn separated(token: &Token, other: Option<Place>) -> Option<Place>
+fn separated(token: &Token, other: Option<ModulePlace>) -> Option<ModulePlace>
     ensures { result ≡ separated token.now other }
 {
     if is_mark(token, Sign::Star) {
-        return Some(Place::Sort(SortUse::Argument, SortState::Begins, 0));
+        return Some(ModulePlace::Sort(SortUse::Argument, SortState::Begins, 0));
     }
     if is_mark(token, Sign::Arrow) {
-        return Some(Place::Sort(SortUse::Own, SortState::Begins, 0));
+        return Some(ModulePlace::Sort(SortUse::Own, SortState::Begins, 0));
     }
     other
 }
 
 // ---- definitions
 
-fn after_header(token: &Token) -> Option<Place>
+fn after_header(token: &Token) -> Option<ModulePlace>
     ensures { result ≡ after_header token.now }
 {
     if is_mark(token, Sign::Equals) {
-        return Some(Place::Body(Part::Strategy));
+        return Some(ModulePlace::Body(BodyPart::Strategy));
     }
     if is_mark(token, Sign::Colon) {
-        return Some(Place::Body(Part::Left));
+        return Some(ModulePlace::Body(BodyPart::Left));
     }
     None
 }
 
-fn first_name(parameters: Parameters, token: &Token) -> Option<Place>
+fn first_name(parameters: Parameters, token: &Token) -> Option<ModulePlace>
     ensures { result ≡ first_name parameters token.now }
 {
     match token {
-        Token::Ident(_) => Some(Place::Name(parameters)),
+        Token::Ident(_) => Some(ModulePlace::Name(parameters)),
         _ => after_names(parameters, token),
     }
 }
 
-fn after_names(parameters: Parameters, token: &Token) -> Option<Place>
+fn after_names(parameters: Parameters, token: &Token) -> Option<ModulePlace>
     ensures { result ≡ after_names parameters token.now }
 {
     if is_mark(token, Sign::CloseRound) {
-        return Some(Place::Headed);
+        return Some(ModulePlace::Headed);
     }
     if is_mark(token, Sign::Bar) {
         return match parameters {
-            Parameters::Strategies => Some(Place::FirstName(Parameters::Terms)),
+            Parameters::Strategies => Some(ModulePlace::FirstName(Parameters::Terms)),
             Parameters::Terms => None,
         };
     }
@@ -224,20 +224,20 @@ fn after_names(parameters: Parameters, token: &Token) -> Option<Place>
 }
 
 // After a whole part of a definition.
-fn after_part(part: Part, token: &Token) -> Option<Place>
+fn after_part(part: BodyPart, token: &Token) -> Option<ModulePlace>
     ensures { result ≡ after_part part token.now }
 {
     match part {
-        Part::Strategy => between(Context::Definitions, token),
-        Part::Left => {
+        BodyPart::Strategy => between(Context::Definitions, token),
+        BodyPart::Left => {
             if is_mark(token, Sign::Arrow) {
-                return Some(Place::Body(Part::Right));
+                return Some(ModulePlace::Body(BodyPart::Right));
             }
             None
         }
-        Part::Right => {
+        BodyPart::Right => {
             if is_word(token, Keyword::Where) {
-                return Some(Place::Body(Part::Strategy));
+                return Some(ModulePlace::Body(BodyPart::Strategy));
             }
             between(Context::Definitions, token)
         }
@@ -248,18 +248,18 @@ fn after_part(part: Part, token: &Token) -> Option<Place>
 
 /// Whether an item is whole before the token, or another has to begin there anyway. A sign with
 /// which a strategy would go on belongs to the item.
-pub fn ends_before(place: Place, token: &Token) -> bool
+pub fn ends_before(place: ModulePlace, token: &Token) -> bool
     ensures { result ≡ true → CanEnd place }
 {
     match place {
-        Place::Between(_) => true,
-        Place::Sort(SortUse::Item, state, depth) => sort_ends(state, depth, token),
-        Place::Sort(SortUse::Constant, state, depth) => {
+        ModulePlace::Between(_) => true,
+        ModulePlace::Sort(SortUse::Item, state, depth) => sort_ends(state, depth, token),
+        ModulePlace::Sort(SortUse::Constant, state, depth) => {
             !is_mark(token, Sign::Arrow) && sort_ends(state, depth, token)
         }
-        Place::Sort(SortUse::Own, state, depth) => sort_ends(state, depth, token),
-        Place::Body(Part::Strategy) => true,
-        Place::Body(Part::Right) => !is_word(token, Keyword::Where) && !prolongs(token),
+        ModulePlace::Sort(SortUse::Own, state, depth) => sort_ends(state, depth, token),
+        ModulePlace::Body(BodyPart::Strategy) => true,
+        ModulePlace::Body(BodyPart::Right) => !is_word(token, Keyword::Where) && !prolongs(token),
         _ => false,
     }
 }
@@ -291,14 +291,14 @@ fn prolongs(token: &Token) -> bool {
 /// that isn't passed, and the tokens from that one on.
 pub fn cross<'a>(
     alloc: Global,
-    place: Place,
+    place: ModulePlace,
     tokens: &'a [Token],
 ) -> Result<(bool, &'a [Token]), NoMemory>
     ensures { IfOk result (λ r. Crossed place tokens.now r.0 r.1.now) }
 {
     match place {
-        Place::Body(Part::Strategy) => pass_strategy(alloc, tokens),
-        Place::Body(_) => pass_pattern(alloc, tokens),
+        ModulePlace::Body(BodyPart::Strategy) => pass_strategy(alloc, tokens),
+        ModulePlace::Body(_) => pass_pattern(alloc, tokens),
         _ => Ok((true, tokens)),
     }
 }

@@ -6,7 +6,7 @@ ghost use Rattle.strategy_parse.specs.inside.ModulePlaces.{CanEnd};
 ghost use Rattle.strategy_tokens.specs.Tokens.{tokens};
 
 use crate::modules::parse::after_title;
-use crate::modules::place::{Place, cross, ends_before, next_place};
+use crate::modules::place::{ModulePlace, cross, ends_before, next_place};
 use crate::modules::sections::read_sections;
 use crate::parser::SyntaxFault;
 use std::alloc::Global;
@@ -79,7 +79,7 @@ fn is_module(alloc: Global, tokens: &[Token]) -> Result<bool, NoMemory>
 fn follow(alloc: Global, tokens: &[Token]) -> Result<StuckModule, NoMemory>
     ensures { IfOk result (λ s. ModuleStuckAt tokens.now s.item s.token) }
 {
-    let mut place = Place::Start;
+    let mut place = ModulePlace::Start;
     let mut item = 0usize;
     let mut left = tokens;
     while let Some((token, rest)) = left.split_first() {
@@ -107,7 +107,7 @@ fn follow(alloc: Global, tokens: &[Token]) -> Result<StuckModule, NoMemory>
 }
 
 // The number of the token if an item may begin with it; else that of the item before.
-fn item_before(place: Place, token: &Token, item: usize, number: usize) -> usize
+fn item_before(place: ModulePlace, token: &Token, item: usize, number: usize) -> usize
     ensures { (result ≡ item) ⊎ ((result ≡ number) × CanEnd place) }
 {
     if ends_before(place, token) {
