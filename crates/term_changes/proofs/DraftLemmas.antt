@@ -6,7 +6,7 @@ use Rattle.term_changes.specs.Change.{changed}
 use Rattle.term_changes.proofs.NodeLemmas.{same_children}
 use Rattle.term_changes.specs.Items.{Item, gathered, after_skipped, first_change}
 use Rattle.term_changes.specs.inside.Marks.{read, read_mark, is_leaf, AreWhole}
-use Rattle.term_changes.specs.declared.draft.Mark.{Mark}
+use Rattle.term_changes.specs.declared.draft.PlaceMark.{PlaceMark}
 use Rattle.term_changes.proofs.WalkedLemmas.{last_first, length-read}
 use Rattle.term_changes.proofs.ExchangeLemmas.{get_set, take-set}
 
@@ -15,8 +15,8 @@ other_gap s r zero others [] = refl
 other_gap s r zero others (t ∷ ts) = refl
 other_gap s r (suc k) others ts = refl
 
--- Mark x is the last one, and y takes its place.
-module _ (marks : List Mark) (last : ℕ) (x y d : Mark) (h : suc last ≡ length marks) (is : get_or marks last d ≡ x) (e : y.kids ≡ x.kids) where
+-- PlaceMark x is the last one, and y takes its place.
+module _ (marks : List PlaceMark) (last : ℕ) (x y d : PlaceMark) (h : suc last ≡ length marks) (is : get_or marks last d ≡ x) (e : y.kids ≡ x.kids) where
   before : reverse marks ≡ x ∷ reverse (take last marks)
   before = last_first marks last d h ∙ ap (λ z. z ∷ reverse (take last marks)) is
 
@@ -38,8 +38,8 @@ module _ (marks : List Mark) (last : ℕ) (x y d : Mark) (h : suc last ≡ lengt
       ∙ other_gap y.skipped x.skipped x.kids (read (reverse (take last marks))) ts
       ∙ ap (λ ms. after_skipped y.skipped (read ms ts)) (sym before)
 
--- Mark x is added.
-module _ (marks new : List Mark) (x : Mark) (h : new ≡ marks ++ x ∷ []) where
+-- PlaceMark x is added.
+module _ (marks new : List PlaceMark) (x : PlaceMark) (h : new ≡ marks ++ x ∷ []) where
   first : reverse new ≡ x ∷ reverse marks
   first = ap reverse h ∙ reverse-append marks (x ∷ [])
 
@@ -57,6 +57,6 @@ module _ (marks new : List Mark) (x : Mark) (h : new ≡ marks ++ x ∷ []) wher
         ∙ ap (λ k. gathered k (read (reverse marks) ts)) (sym e)
 
 -- No marks change nothing.
-pub none_changed : (marks : List Mark) (ts : List Tree) (t : Tree) → length marks ≡ 0 → changed (first_change (read (reverse marks) ts)) t ≡ t
+pub none_changed : (marks : List PlaceMark) (ts : List Tree) (t : Tree) → length marks ≡ 0 → changed (first_change (read (reverse marks) ts)) t ≡ t
 none_changed [] ts t h = same_children t
 none_changed (x ∷ marks) ts t h = absurd (omega (arith, h))

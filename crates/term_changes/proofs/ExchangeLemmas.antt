@@ -9,7 +9,7 @@ use Rattle.term_changes.specs.Items.{Item, items_changes, first_item}
 use Rattle.term_changes.specs.inside.ItemCodes.{taken_items}
 use Rattle.term_changes.specs.inside.Marks.{read, read_mark, count, is_leaf, leaves, AreWhole}
 use Rattle.term_changes.specs.inside.Walked.{Walked}
-use Rattle.term_changes.specs.declared.draft.Mark.{Mark}
+use Rattle.term_changes.specs.declared.draft.PlaceMark.{PlaceMark}
 use Rattle.term_changes.proofs.WalkLemmas.{taken_of_items, taken_nowhere, length-taken}
 use Rattle.term_changes.proofs.WalkedLemmas.{last_first, length-read, first_node, first_leaf, walked_node, walked_leaf, walked_then, walked_rest, one_more, first_within}
 
@@ -23,7 +23,7 @@ get_set [] t u d h = absurd (omega (arith, h))
 get_set (v ∷ us) zero u d h = refl
 get_set (v ∷ us) (suc t) u d h = get_set us t u d (omega (arith, h))
 
-of_count : (ms : List Mark) → 0 < count (reverse ms) → 0 < length ms
+of_count : (ms : List PlaceMark) → 0 < count (reverse ms) → 0 < length ms
 of_count [] h = h
 of_count (x ∷ ms) h = omega arith
 
@@ -32,8 +32,8 @@ of_mark s zero n others [] h = absurd (omega (arith, h))
 of_mark s zero n others (t ∷ ts) h = refl
 of_mark s (suc k) n others ts h = refl
 
--- Mark x is the last one.
-module _ (marks : List Mark) (terms : List Tree) (last : ℕ) (x d : Mark) (h : suc last ≡ length marks) (is : get_or marks last d ≡ x) (whole : AreWhole (reverse marks) (length terms)) where
+-- PlaceMark x is the last one.
+module _ (marks : List PlaceMark) (terms : List Tree) (last : ℕ) (x d : PlaceMark) (h : suc last ≡ length marks) (is : get_or marks last d ≡ x) (whole : AreWhole (reverse marks) (length terms)) where
   all : reverse marks ≡ x ∷ reverse (take last marks)
   all = last_first marks last d h ∙ ap (λ y. y ∷ reverse (take last marks)) is
 
@@ -119,7 +119,7 @@ module _ (marks : List Mark) (terms : List Tree) (last : ℕ) (x d : Mark) (h : 
 
 -- ---- the places below the children of a node, one after the other
 
-module _ (marks : List Mark) (terms now : List Tree) (m t k kids : ℕ) (found : List Item) (enough : kids ≤ count (reverse marks)) (whole : AreWhole (reverse marks) (length terms)) (l : k < kids)
+module _ (marks : List PlaceMark) (terms now : List Tree) (m t k kids : ℕ) (found : List Item) (enough : kids ≤ count (reverse marks)) (whole : AreWhole (reverse marks) (length terms)) (l : k < kids)
     (w : Walked marks terms now m t (take k (read (reverse marks) (reverse terms))) found) where
   long : length (read (reverse marks) (reverse terms)) ≡ count (reverse marks)
   long = length-read (reverse marks) (reverse terms) (subst (λ n. AreWhole (reverse marks) n) (sym (length-reverse terms)) whole)

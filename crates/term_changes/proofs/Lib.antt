@@ -21,3 +21,4 @@ pub mod ExchangeLemmas
 pub mod ListingLemmas
 pub mod DraftLemmas
 pub mod TrimLemmas
+pub mod ReadingLemmas

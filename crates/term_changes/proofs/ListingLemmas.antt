@@ -11,7 +11,7 @@ use Rattle.term_changes.specs.Putting.{entry_at, entries_at}
 use Rattle.term_changes.specs.inside.ItemCodes.{taken_items}
 use Rattle.term_changes.specs.inside.Marks.{read, count, AreWhole}
 use Rattle.term_changes.specs.inside.Walked.{Walked, Listed}
-use Rattle.term_changes.specs.declared.draft.Mark.{Mark}
+use Rattle.term_changes.specs.declared.draft.PlaceMark.{PlaceMark}
 use Rattle.term_changes.proofs.WalkLemmas.{taken_nowhere}
 use Rattle.term_changes.proofs.WalkedLemmas.{length-read, one_more}
 use Rattle.term_changes.proofs.ExchangeLemmas.{node_passed, next_walked, next_item, left_say}
@@ -44,8 +44,8 @@ kid_listed slot p q i j next x xs plan now e f g h =
 
 -- ---- one level up
 
--- Mark x is the last one, and a node.
-pub node_listed : (marks : List Mark) (terms : List Tree) (last : ℕ) (x d : Mark) (h : suc last ≡ length marks) (is : Rattle.std.specs.Prelude.get_or marks last d ≡ x) (whole : AreWhole (reverse marks) (length terms)) (n : ℕ) (e : x.kids ≡ suc n) (left : List Tree) (m : ℕ)
+-- PlaceMark x is the last one, and a node.
+pub node_listed : (marks : List PlaceMark) (terms : List Tree) (last : ℕ) (x d : PlaceMark) (h : suc last ≡ length marks) (is : Rattle.std.specs.Prelude.get_or marks last d ≡ x) (whole : AreWhole (reverse marks) (length terms)) (n : ℕ) (e : x.kids ≡ suc n) (left : List Tree) (m : ℕ)
     → Listed (take last marks) terms left m (take x.kids (read (reverse (take last marks)) (reverse terms)))
     → Listed marks terms left m (first_item (read (reverse marks) (reverse terms)) ∷ [])
 node_listed marks terms last x d h is whole n e left m l =
@@ -58,7 +58,7 @@ node_listed marks terms last x d h is whole n e left m l =
 
 -- ---- one place after the other
 
-module _ (marks : List Mark) (terms left : List Tree) (m k kids : ℕ) (enough : kids ≤ count (reverse marks)) (whole : AreWhole (reverse marks) (length terms)) (l : k < kids)
+module _ (marks : List PlaceMark) (terms left : List Tree) (m k kids : ℕ) (enough : kids ≤ count (reverse marks)) (whole : AreWhole (reverse marks) (length terms)) (l : k < kids)
     (w : Listed marks terms left m (take k (read (reverse marks) (reverse terms)))) where
   said : read (reverse (take m marks)) (reverse left) ≡ drop k (read (reverse marks) (reverse terms))
   said = ap (λ us. read (reverse (take m marks)) (reverse us)) w.rest

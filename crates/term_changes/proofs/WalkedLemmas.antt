@@ -7,7 +7,7 @@ use Rattle.term_changes.specs.Change.{inside, replaced}
 use Rattle.term_changes.specs.Items.{Item, items_changes, first_item}
 use Rattle.term_changes.specs.inside.Marks.{read, read_mark, count, is_leaf, leaves, HaveKids, AreWhole}
 use Rattle.term_changes.specs.inside.Walked.{Reads, Walked}
-use Rattle.term_changes.specs.declared.draft.Mark.{Mark}
+use Rattle.term_changes.specs.declared.draft.PlaceMark.{PlaceMark}
 
 -- ---- vectors that are read from the end
 
@@ -37,37 +37,37 @@ module _ {X : Type 0} where
 -- ---- how many items there are
 
 -- where the others after a mark have the items that they should
-of_mark : (s n : ℕ) (ms : List Mark) (ts : List Tree) → n ≤ count ms → is_leaf n + leaves ms ≡ length ts
+of_mark : (s n : ℕ) (ms : List PlaceMark) (ts : List Tree) → n ≤ count ms → is_leaf n + leaves ms ≡ length ts
     → ((us : List Tree) → leaves ms ≡ length us → length (read ms us) ≡ count ms)
     → length (read_mark s n (read ms) ts) ≡ suc (count ms - n)
 of_mark s zero ms [] k l f = absurd (omega (arith, l))
 of_mark s zero ms (t ∷ ts) k l f = omega (arith, f ts (omega (arith, l)))
 of_mark s (suc n) ms ts k l f = omega (arith, length-drop (suc n) (read ms ts), f ts (omega (arith, l)))
 
-all_of : (ms : List Mark) (ts : List Tree) → HaveKids ms → leaves ms ≡ length ts → length (read ms ts) ≡ count ms
+all_of : (ms : List PlaceMark) (ts : List Tree) → HaveKids ms → leaves ms ≡ length ts → length (read ms ts) ≡ count ms
 all_of [] ts h l = refl
 all_of (x ∷ ms) ts h l = of_mark x.skipped x.kids ms ts h.0 l (λ us. all_of ms us h.1)
 
-pub length-read : (ms : List Mark) (ts : List Tree) → AreWhole ms (length ts) → length (read ms ts) ≡ count ms
+pub length-read : (ms : List PlaceMark) (ts : List Tree) → AreWhole ms (length ts) → length (read ms ts) ≡ count ms
 length-read ms ts h = all_of ms ts h.0 h.1
 
 -- ---- the first item
 
-pub first_node : (x : Mark) (n : ℕ) (ms : List Mark) (ts : List Tree) → x.kids ≡ suc n
+pub first_node : (x : PlaceMark) (n : ℕ) (ms : List PlaceMark) (ts : List Tree) → x.kids ≡ suc n
     → first_item (read (x ∷ ms) ts) ≡ (x.skipped, inside (items_changes (take x.kids (read ms ts))))
 first_node x n ms ts e =
     ap (λ k. first_item (read_mark x.skipped k (read ms) ts)) e
     ∙ ap (λ k. (x.skipped, inside (items_changes (take k (read ms ts))))) (sym e)
 
-pub first_leaf : (x : Mark) (t : Tree) (ms : List Mark) (ts : List Tree) → x.kids ≡ 0 → first_item (read (x ∷ ms) (t ∷ ts)) ≡ (x.skipped, replaced t)
+pub first_leaf : (x : PlaceMark) (t : Tree) (ms : List PlaceMark) (ts : List Tree) → x.kids ≡ 0 → first_item (read (x ∷ ms) (t ∷ ts)) ≡ (x.skipped, replaced t)
 first_leaf x t ms ts e = ap (λ k. first_item (read_mark x.skipped k (read ms) (t ∷ ts))) e
 
 -- ---- what segments say
 
-reads_leaf : (x : Mark) (t : Tree) → x.kids ≡ 0 → Reads (x ∷ []) (t ∷ []) ((x.skipped, replaced t) ∷ [])
+reads_leaf : (x : PlaceMark) (t : Tree) → x.kids ≡ 0 → Reads (x ∷ []) (t ∷ []) ((x.skipped, replaced t) ∷ [])
 reads_leaf x t e ms ts = ap (λ k. read_mark x.skipped k (read ms) (t ∷ ts)) e
 
-reads_node : (x : Mark) (n : ℕ) (seg : List Mark) (us : List Tree) (xs : List Item) → x.kids ≡ suc n → length xs ≡ suc n → Reads seg us xs
+reads_node : (x : PlaceMark) (n : ℕ) (seg : List PlaceMark) (us : List Tree) (xs : List Item) → x.kids ≡ suc n → length xs ≡ suc n → Reads seg us xs
     → Reads (x ∷ seg) us ((x.skipped, inside (items_changes xs)) ∷ [])
 reads_node x n seg us xs e many h ms ts =
     let node : ℕ → List Item → List Item = λ k l. (x.skipped, inside (items_changes (take k l))) ∷ drop k l in
@@ -76,19 +76,19 @@ reads_node x n seg us xs e many h ms ts =
     ∙ ap (λ k. node k (xs ++ read ms ts)) (sym many)
     ∙ (λ j. (x.skipped, inside (items_changes (take-append_seam xs (read ms ts) j))) ∷ drop-append_seam xs (read ms ts) j)
 
-reads_append : (a b : List Mark) (us vs : List Tree) (xs ys : List Item) → Reads a us xs → Reads b vs ys → Reads (a ++ b) (us ++ vs) (xs ++ ys)
+reads_append : (a b : List PlaceMark) (us vs : List Tree) (xs ys : List Item) → Reads a us xs → Reads b vs ys → Reads (a ++ b) (us ++ vs) (xs ++ ys)
 reads_append a b us vs xs ys h g ms ts =
     (λ j. read (append_assoc a b ms j) (append_assoc us vs ts j))
     ∙ h (b ++ ms) (vs ++ ts)
     ∙ ap (λ l. xs ++ l) (g ms ts)
     ∙ sym (append_assoc xs ys (read ms ts))
 
-same_reads : (a b : List Mark) (us vs : List Tree) (xs : List Item) → a ≡ b → us ≡ vs → Reads b vs xs → Reads a us xs
+same_reads : (a b : List PlaceMark) (us vs : List Tree) (xs : List Item) → a ≡ b → us ≡ vs → Reads b vs xs → Reads a us xs
 same_reads a b us vs xs e f h ms ts = (λ j. read (e j ++ ms) (f j ++ ts)) ∙ h ms ts
 
 -- ---- nothing read yet
 
-pub walked_none : (marks : List Mark) (terms : List Tree) → AreWhole (reverse marks) (length terms) → Walked marks terms terms (length marks) (length terms) [] []
+pub walked_none : (marks : List PlaceMark) (terms : List Tree) → AreWhole (reverse marks) (length terms) → Walked marks terms terms (length marks) (length terms) [] []
 walked_none marks terms h = record {
   marks_left = omega arith;
   terms_left = omega arith;
@@ -102,8 +102,8 @@ walked_none marks terms h = record {
 
 -- ---- one mark
 
--- Mark x is the last one.
-module _ (marks : List Mark) (terms now : List Tree) (last : ℕ) (x d : Mark) (h : suc last ≡ length marks) (is : get_or marks last d ≡ x) where
+-- PlaceMark x is the last one.
+module _ (marks : List PlaceMark) (terms now : List Tree) (last : ℕ) (x d : PlaceMark) (h : suc last ≡ length marks) (is : get_or marks last d ≡ x) where
   -- a node, whose places were walked through
   pub walked_node : (n m t : ℕ) (was found : List Item) → x.kids ≡ suc n → length was ≡ suc n → length found ≡ suc n
       → Walked (take last marks) terms now m t was found
@@ -149,7 +149,7 @@ module _ (marks : List Mark) (terms now : List Tree) (last : ℕ) (x d : Mark) (
 
 -- ---- one walk after the other
 
-pub walked_then : (marks : List Mark) (terms now next : List Tree) (m t n u : ℕ) (was found then_was then_found : List Item)
+pub walked_then : (marks : List PlaceMark) (terms now next : List Tree) (m t n u : ℕ) (was found then_was then_found : List Item)
     → Walked marks terms now m t was found → Walked (take m marks) (take t now) next n u then_was then_found
     → Walked marks terms (next ++ drop t now) n u (was ++ then_was) (found ++ then_found)
 walked_then marks terms now next m t n u was found then_was then_found w v =
@@ -180,13 +180,13 @@ walked_then marks terms now next m t n u was found then_was then_found w v =
     }
 
 -- what wasn't read
-pub walked_rest : (marks : List Mark) (terms now : List Tree) (m t : ℕ) (was found : List Item) → Walked marks terms now m t was found
+pub walked_rest : (marks : List PlaceMark) (terms now : List Tree) (m t : ℕ) (was found : List Item) → Walked marks terms now m t was found
     → read (reverse marks) (reverse terms) ≡ was ++ read (reverse (take m marks)) (reverse (take t terms))
 walked_rest marks terms now m t was found w =
     (λ j. read (parts marks m j) (parts terms t j)) ∙ w.reads (reverse (take m marks)) (reverse (take t terms))
 
 -- what is said now
-pub walked_now : (marks : List Mark) (terms now : List Tree) (m t : ℕ) (was : List Item) (x : Item) → Walked marks terms now m t was (x ∷ [])
+pub walked_now : (marks : List PlaceMark) (terms now : List Tree) (m t : ℕ) (was : List Item) (x : Item) → Walked marks terms now m t was (x ∷ [])
     → first_item (read (reverse marks) (reverse now)) ≡ x
 walked_now marks terms now m t was x w =
     (λ j. first_item (read (parts marks m j) (parts now t j)))

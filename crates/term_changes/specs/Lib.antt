@@ -13,5 +13,6 @@ pub mod Putting
 pub mod EditChanges
 pub mod Exchange
 pub mod Items
+pub mod Reading
 pub mod PatchLaws
 pub mod inside

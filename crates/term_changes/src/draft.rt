@@ -11,7 +11,7 @@ use term_core::{NoMemory, Term};
 
 /// A place of a patch: a term, or a node with places below some of its children.
 #[derive(Clone, Copy)]
-pub struct Mark {
+pub struct PlaceMark {
     // How many children are left as they are between the place before it and this one.
     pub(crate) skipped: usize,
     // How many places below children a node has; none: a term.
@@ -26,7 +26,7 @@ pub struct Mark {
 #[derive(Drop)]
 pub struct Draft {
     // The last place in the tree stands first here, and a node after the places below its children.
-    pub(crate) marks: Vec<Mark>,
+    pub(crate) marks: Vec<PlaceMark>,
     // In the same order.
     pub(crate) terms: Vec<Term>,
 }
@@ -63,7 +63,7 @@ impl Draft {
     {
         self.marks.reserve(1)?;
         self.terms.reserve(1)?;
-        self.marks.push_reserved(Mark {
+        self.marks.push_reserved(PlaceMark {
             skipped: 0,
             kids: 0,
         });
@@ -77,7 +77,7 @@ impl Draft {
         requires there { kids ≤ length self.old }
         ensures { IfOk result (λ _. self.new ≡ gathered kids self.old) }
     {
-        self.marks.push(Mark { skipped: 0, kids })?;
+        self.marks.push(PlaceMark { skipped: 0, kids })?;
         Ok(())
     }
 

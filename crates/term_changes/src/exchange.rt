@@ -8,7 +8,7 @@ ghost use Rattle.term_changes.specs.inside.ItemCodes.{taken_items};
 ghost use Rattle.term_changes.specs.inside.Marks.{read, count, AreWhole};
 ghost use Rattle.term_changes.specs.inside.Walked.{Walked};
 
-use crate::draft::Mark;
+use crate::draft::PlaceMark;
 use std::mem;
 use term_core::Term;
 
@@ -21,7 +21,7 @@ pub(crate) struct Left {
 
 /// Exchanges at the last of these places, which is in this tree.
 #[cycle(exchange)]
-pub(crate) fn exchange_item(marks: &[Mark], terms: &mut [Term], tree: &mut Term) -> Left
+pub(crate) fn exchange_item(marks: &[PlaceMark], terms: &mut [Term], tree: &mut Term) -> Left
     requires some { 0 < length marks.now }
     requires whole { AreWhole (reverse marks.now) (length terms.old) }
     ensures tree { tree.new ≡ changed (first_item (read (reverse marks.now) (reverse terms.old))).1 tree.old }
@@ -47,7 +47,7 @@ pub(crate) fn exchange_item(marks: &[Mark], terms: &mut [Term], tree: &mut Term)
 
 // Passes over the last of these places, which isn't there.
 #[cycle(exchange)]
-fn pass_item(marks: &[Mark], terms: &mut [Term]) -> Left
+fn pass_item(marks: &[PlaceMark], terms: &mut [Term]) -> Left
     requires some { 0 < length marks.now }
     requires whole { AreWhole (reverse marks.now) (length terms.old) }
     ensures walked { Walked marks.now terms.old terms.new result.marks result.terms
@@ -67,7 +67,12 @@ fn pass_item(marks: &[Mark], terms: &mut [Term]) -> Left
 
 // Exchanges at the last so many of these places, which are below these children.
 #[cycle(exchange)]
-fn exchange_kids(marks: &[Mark], kids: usize, terms: &mut [Term], children: &mut [Term]) -> Left
+fn exchange_kids(
+    marks: &[PlaceMark],
+    kids: usize,
+    terms: &mut [Term],
+    children: &mut [Term],
+) -> Left
     requires some { kids ≤ count (reverse marks.now) }
     requires whole { AreWhole (reverse marks.now) (length terms.old) }
     ensures children { children.new
@@ -95,7 +100,12 @@ fn exchange_kids(marks: &[Mark], kids: usize, terms: &mut [Term], children: &mut
 // Exchanges at the last of these places, which is below a child from number `at` on. That is then
 // the child after it.
 #[cycle(exchange)]
-fn exchange_kid(marks: &[Mark], terms: &mut [Term], children: &mut [Term], at: &mut usize) -> Left
+fn exchange_kid(
+    marks: &[PlaceMark],
+    terms: &mut [Term],
+    children: &mut [Term],
+    at: &mut usize,
+) -> Left
     requires some { 0 < length marks.now }
     requires whole { AreWhole (reverse marks.now) (length terms.old) }
     requires within { at.old ≤ length children.old }

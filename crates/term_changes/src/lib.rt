@@ -9,12 +9,14 @@ pub mod laws;
 mod listing;
 mod patch;
 mod plan;
+mod reading;
 mod text;
 
 pub use draft::Draft;
 #[doc(hidden)]
-pub use draft::Mark;
+pub use draft::PlaceMark;
 pub use entry::{Entry, Kept};
 pub use patch::Patch;
 pub use plan::{Plan, Replaced};
+pub use reading::{Next, Reader};
 pub use text::Text;

@@ -9,7 +9,7 @@ ghost use Rattle.term_changes.specs.Putting.{entries_at};
 ghost use Rattle.term_changes.specs.inside.Marks.{read, count, AreWhole};
 ghost use Rattle.term_changes.specs.inside.Walked.{Listed};
 
-use crate::draft::Mark;
+use crate::draft::PlaceMark;
 use crate::entry::Entry;
 use crate::{Patch, Plan};
 use std::alloc::Global;
@@ -38,7 +38,7 @@ impl Patch {
 // left.
 #[cycle(list)]
 fn list_item(
-    marks: &[Mark],
+    marks: &[PlaceMark],
     terms: &mut Vec<Term>,
     slot: usize,
     path: &mut Vec<usize>,
@@ -67,7 +67,7 @@ fn list_item(
 // Adds the last so many of these places, which are below the children of the node at the path.
 #[cycle(list)]
 fn list_kids(
-    marks: &[Mark],
+    marks: &[PlaceMark],
     kids: usize,
     terms: &mut Vec<Term>,
     slot: usize,
@@ -94,7 +94,7 @@ fn list_kids(
 // on. That is then the child after it.
 #[cycle(list)]
 fn list_kid(
-    marks: &[Mark],
+    marks: &[PlaceMark],
     terms: &mut Vec<Term>,
     slot: usize,
     path: &mut Vec<usize>,

@@ -4,7 +4,7 @@ ghost use Rattle.std.specs.Prelude.{◌≡◌, true};
 ghost use Rattle.term_changes.specs.Change.{inside, no_more, changed};
 ghost use Rattle.term_changes.specs.Exchange.{taken, changed_in, taken_in};
 
-use crate::draft::Mark;
+use crate::draft::PlaceMark;
 use crate::exchange::exchange_item;
 use std::alloc::Global;
 use std::marker::Model;
@@ -14,7 +14,7 @@ use term_core::Term;
 /// below some of its children. Contracts see the change that it makes.
 #[derive(Drop)]
 pub struct Patch {
-    pub(crate) marks: Vec<Mark>,
+    pub(crate) marks: Vec<PlaceMark>,
     pub(crate) terms: Vec<Term>,
 }
 

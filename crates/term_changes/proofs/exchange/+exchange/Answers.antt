@@ -7,7 +7,7 @@ use Rattle.term_changes.specs.Items.{items_changes, first_item}
 use Rattle.term_changes.specs.inside.ItemCodes.{taken_items}
 use Rattle.term_changes.specs.inside.Marks.{read}
 use Rattle.term_changes.specs.inside.Walked.{Walked}
-use Rattle.term_changes.specs.declared.draft.Mark.{Mark}
+use Rattle.term_changes.specs.declared.draft.PlaceMark.{PlaceMark}
 use Rattle.term_changes.proofs.WalkLemmas.{next_children, found, next_taken, last_children, not_found, last_taken}
 use Rattle.term_changes.proofs.ExchangeLemmas.{item_skipped, node_walked, node_passed, one, leaf_passed, next_walked, next_item}
 use Rattle.term_changes.proofs.exchange.+exchange.Goals as goal
@@ -18,7 +18,7 @@ exchange_item-returns-then-mark-gt0-clause-walked t c =
     let ms = c.args.marks.now in
     let ts = c.args.terms.now in
     let last = length ms - 1 in
-    let d : Mark = record { skipped = 0; kids = 0 } in
+    let d : PlaceMark = record { skipped = 0; kids = 0 } in
     let x = slice_index_or ms last d in
     let kids = take x.kids (read (reverse (take last ms)) (reverse ts)) in
     node_walked ms ts last x d (omega (arith, c.requires.some)) refl c.requires.whole (x.kids - 1) (omega (arith, c.if-mark-gt0.true))
@@ -29,7 +29,7 @@ pub pass_item-returns-then-mark-gt0 : goal.pass_item-returns-then-mark-gt0
 pass_item-returns-then-mark-gt0 t c =
     let ms = c.args.marks.now in
     let last = length ms - 1 in
-    let d : Mark = record { skipped = 0; kids = 0 } in
+    let d : PlaceMark = record { skipped = 0; kids = 0 } in
     let x = slice_index_or ms last d in
     record {
       walked = node_passed ms c.args.terms.now last x d (omega (arith, c.requires.some)) refl c.requires.whole (x.kids - 1) (omega (arith, c.if-mark-gt0.true))
@@ -41,7 +41,7 @@ pass_item-returns t c =
     let ms = c.args.marks.now in
     let ts = c.args.terms.now in
     let last = length ms - 1 in
-    let d : Mark = record { skipped = 0; kids = 0 } in
+    let d : PlaceMark = record { skipped = 0; kids = 0 } in
     let x = slice_index_or ms last d in
     let h : suc last ≡ length ms = omega (arith, c.requires.some) in
     let e : x.kids ≡ 0 = omega (arith, c.if-mark-gt0.false) in
@@ -56,7 +56,7 @@ pub exchange_kid-returns-then-skipped-children-clause-children :
 exchange_kid-returns-then-skipped-children-clause-children t c =
     let ms = c.args.marks.now in
     let ts = c.args.terms.now in
-    let d : Mark = record { skipped = 0; kids = 0 } in
+    let d : PlaceMark = record { skipped = 0; kids = 0 } in
     let gap = item_skipped ms ts (length ms - 1) (slice_index_or ms (length ms - 1) d) d (omega (arith, c.requires.some)) refl c.requires.whole in
     last_children c.args.at.now (length c.args.children.now) c.args.children.now (first_item (read (reverse ms) (reverse ts)))
     (omega (arith, gap, c.if-skipped-children.true, c.requires.within)) refl
@@ -66,7 +66,7 @@ pub exchange_kid-returns-then-skipped-children-clause-taken :
 exchange_kid-returns-then-skipped-children-clause-taken t c =
     let ms = c.args.marks.now in
     let ts = c.args.terms.now in
-    let d : Mark = record { skipped = 0; kids = 0 } in
+    let d : PlaceMark = record { skipped = 0; kids = 0 } in
     let gap = item_skipped ms ts (length ms - 1) (slice_index_or ms (length ms - 1) d) d (omega (arith, c.requires.some)) refl c.requires.whole in
     last_taken c.args.at.now (length c.args.children.now) c.args.children.now (first_item (read (reverse ms) (reverse ts)))
     (omega (arith, gap, c.if-skipped-children.true, c.requires.within)) refl
@@ -76,7 +76,7 @@ pub exchange_kid-returns-then-skipped-children-clause-walked :
 exchange_kid-returns-then-skipped-children-clause-walked t c =
     let ms = c.args.marks.now in
     let ts = c.args.terms.now in
-    let d : Mark = record { skipped = 0; kids = 0 } in
+    let d : PlaceMark = record { skipped = 0; kids = 0 } in
     let x = first_item (read (reverse ms) (reverse ts)) in
     let gap = item_skipped ms ts (length ms - 1) (slice_index_or ms (length ms - 1) d) d (omega (arith, c.requires.some)) refl c.requires.whole in
     subst (λ y. Walked ms ts c.pass_item.new.terms c.pass_item.result.marks c.pass_item.result.terms (x ∷ []) (y ∷ []))
@@ -88,7 +88,7 @@ exchange_kid-returns-clause-children t c =
     let ms = c.args.marks.now in
     let ts = c.args.terms.now in
     let us = c.args.children.now in
-    let d : Mark = record { skipped = 0; kids = 0 } in
+    let d : PlaceMark = record { skipped = 0; kids = 0 } in
     let gap = item_skipped ms ts (length ms - 1) (slice_index_or ms (length ms - 1) d) d (omega (arith, c.requires.some)) refl c.requires.whole in
     let j = c.args.at.now + (slice_index_or ms (length ms - 1) d).skipped in
     next_children c.args.at.now j (j + 1) us (get_or us j c.index-children-at.result) c.exchange_item-left.new.tree (first_item (read (reverse ms) (reverse ts)))
@@ -99,7 +99,7 @@ exchange_kid-returns-clause-taken t c =
     let ms = c.args.marks.now in
     let ts = c.args.terms.now in
     let us = c.args.children.now in
-    let d : Mark = record { skipped = 0; kids = 0 } in
+    let d : PlaceMark = record { skipped = 0; kids = 0 } in
     let gap = item_skipped ms ts (length ms - 1) (slice_index_or ms (length ms - 1) d) d (omega (arith, c.requires.some)) refl c.requires.whole in
     let j = c.args.at.now + (slice_index_or ms (length ms - 1) d).skipped in
     next_taken c.args.at.now j (j + 1) us (get_or us j c.index-children-at.result) c.exchange_item-left.new.tree (first_item (read (reverse ms) (reverse ts)))
@@ -110,7 +110,7 @@ exchange_kid-returns-clause-walked t c =
     let ms = c.args.marks.now in
     let ts = c.args.terms.now in
     let us = c.args.children.now in
-    let d : Mark = record { skipped = 0; kids = 0 } in
+    let d : PlaceMark = record { skipped = 0; kids = 0 } in
     let x = first_item (read (reverse ms) (reverse ts)) in
     let gap = item_skipped ms ts (length ms - 1) (slice_index_or ms (length ms - 1) d) d (omega (arith, c.requires.some)) refl c.requires.whole in
     let j = c.args.at.now + (slice_index_or ms (length ms - 1) d).skipped in

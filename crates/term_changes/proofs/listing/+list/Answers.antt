@@ -5,7 +5,7 @@ use Rattle.term_changes.specs.Change.{places_from}
 use Rattle.term_changes.specs.Items.{items_changes, first_item}
 use Rattle.term_changes.specs.Putting.{entries_at}
 use Rattle.term_changes.specs.inside.Marks.{read}
-use Rattle.term_changes.specs.declared.draft.Mark.{Mark}
+use Rattle.term_changes.specs.declared.draft.PlaceMark.{PlaceMark}
 use Rattle.term_changes.proofs.ExchangeLemmas.{item_skipped}
 use Rattle.term_changes.proofs.ListingLemmas.{kid_listed, node_listed, item_listed, next_listed}
 use Rattle.term_changes.proofs.listing.+list.Goals as goal
@@ -15,7 +15,7 @@ pub list_item-returns-then-mark-gt0-clause-listed :
 list_item-returns-then-mark-gt0-clause-listed t c =
     let ms = c.args.marks.now in
     let last = length ms - 1 in
-    let d : Mark = record { skipped = 0; kids = 0 } in
+    let d : PlaceMark = record { skipped = 0; kids = 0 } in
     let x = slice_index_or ms last d in
     IfOk-weaker c.list_kids.result _ _
     (λ left. node_listed ms c.args.terms.now.items last x d (omega (arith, c.requires.some)) refl c.requires.whole (x.kids - 1) (omega (arith, c.if-mark-gt0.true)) c.list_kids.new.terms.items left)
@@ -25,7 +25,7 @@ pub list_kid-returns-clause-plan : goal.list_kid-returns-clause-plan
 list_kid-returns-clause-plan t c = λ xs.
     let ms = c.args.marks.now in
     let ts = c.args.terms.now.items in
-    let d : Mark = record { skipped = 0; kids = 0 } in
+    let d : PlaceMark = record { skipped = 0; kids = 0 } in
     let gap = item_skipped ms ts (length ms - 1) (slice_index_or ms (length ms - 1) d) d (omega (arith, c.requires.some)) refl c.requires.whole in
     kid_listed c.args.slot c.args.path.now.items c.push.new.self.items c.args.at.now c.in-Some.child c.in-Some-checked_add.next (first_item (read (reverse ms) (reverse ts))) xs c.args.plan.now c.list_item.new.plan
     (omega (arith, gap, c.in-Some.ensures)) (omega (arith, c.in-Some-checked_add.ensures)) c.in_ok-push.ensures.items c.in_ok-left.ensures.plan

@@ -1,0 +1,30 @@
+-- Reading a patch.
+use Rattle.std.specs.Prelude.{◌≡◌, ℕ, suc, ◌+◌, ◌≤◌, List, [], ◌∷◌, take, drop, length, Some, None}
+use Rattle.std.specs.declared.option.Option.{Option}
+use Rattle.term_changes.specs.Change.{Change, same, inside, replaced, Changes, no_more, and_then}
+use Rattle.term_changes.specs.Items.{Item, items_changes}
+use Rattle.term_changes.specs.declared.reading.Next.{Next}
+use Rattle.term_changes.specs.declared.reading.Next.TheVariants.{Term, Node}
+
+-- From the first items to the second this was read: the term of the first one, or that it is a node,
+-- whose items come first then.
+abbrev pub IsNextItem : List Item → Option (ℕ × Next) → List Item → Type 0
+IsNextItem old None new = old ≡ []
+IsNextItem old (Some (skipped, Term t)) new = old ≡ (skipped, replaced t.now) ∷ new
+IsNextItem old (Some (skipped, Node kids)) new =
+    (1 ≤ kids) × (kids ≤ length new) × (old ≡ (skipped, inside (items_changes (take kids new))) ∷ drop kids new)
+
+-- How much there is to read in a change. It falls with each item.
+abbrev mutual
+  pub weight : Change → ℕ
+  weight same = 0
+  weight (inside cs) = suc (weights cs)
+  weight (replaced t) = 1
+
+  pub weights : Changes → ℕ
+  weights no_more = 0
+  weights (and_then c cs) = weight c + weights cs
+
+abbrev pub items_weight : List Item → ℕ
+items_weight [] = 0
+items_weight (x ∷ xs) = weight x.1 + items_weight xs
