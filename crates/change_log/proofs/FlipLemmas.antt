@@ -35,7 +35,7 @@ within_found (slot_text i c) (slot_text j b) s t w = w
 apart_found : (d e : Entry) (s t : Store) → EntriesAreApart d e → EntriesAreApart (found d s) (found e t)
 apart_found d e s t h = (λ w. h.0 (within_found d e s t w), λ w. h.1 (within_found e d t s w))
 
-apart_if_compact : (es : List Entry) → IsCompact es → AllApart es
+pub apart_if_compact : (es : List Entry) → IsCompact es → AllApart es
 apart_if_compact [] h = tt
 apart_if_compact (e ∷ es) h =
     (apart_from e es (λ k d l. h 0 (suc k) d (omega arith) (omega (arith, l))), apart_if_compact es (λ i j d lt within. h (suc i) (suc j) d (omega (arith, lt)) (omega (arith, within))))

@@ -10,3 +10,4 @@ pub mod OrderLemmas
 pub mod CompactLemmas
 pub mod FlipLemmas
 pub mod NameLemmas
+pub mod SwapLemmas

@@ -55,7 +55,7 @@ module _ {X : Type 0} where
   all_above k [] h = tt
   all_above k (e ∷ es) h = (less_first (slice_cmp nat_cmp k e.0) (below_all (slice_cmp nat_cmp) k es) h, all_above k es (later (is_lt (slice_cmp nat_cmp k e.0)) (below_all (slice_cmp nat_cmp) k es) h))
 
-  keys_strict : (es : List (List ℕ × X)) → T (is_sorted (slice_cmp nat_cmp) es) → IsStrictlySortedBy (slice_cmp nat_cmp) (keys_of es)
+  pub keys_strict : (es : List (List ℕ × X)) → T (is_sorted (slice_cmp nat_cmp) es) → IsStrictlySortedBy (slice_cmp nat_cmp) (keys_of es)
   unfolding IsStrictlySortedBy
   keys_strict [] h = tt
   keys_strict (e ∷ es) h =
@@ -74,7 +74,7 @@ keys-units [] = refl
 keys-units (k ∷ ks) = ap (λ l. k ∷ l) (keys-units ks)
 
 -- two lists with the same keys are equal
-same_keys : (ks js : List (List ℕ)) → IsStrictlySortedBy (slice_cmp nat_cmp) ks → IsStrictlySortedBy (slice_cmp nat_cmp) js
+pub same_keys : (ks js : List (List ℕ)) → IsStrictlySortedBy (slice_cmp nat_cmp) ks → IsStrictlySortedBy (slice_cmp nat_cmp) js
     → ((q : List ℕ) → list_any (eq_by_cmp (slice_cmp nat_cmp) q) ks ≡ list_any (eq_by_cmp (slice_cmp nat_cmp) q) js) → ks ≡ js
 same_keys ks js s t same =
     let R = slice_cmp nat_cmp in

@@ -1,4 +1,3 @@
 pub mod Merging
 pub mod PlaceOrder
 pub mod Relations
-pub mod StepView

@@ -6,18 +6,18 @@ mod compact;
 pub mod laws;
 mod log;
 mod merge;
+mod reading;
 mod relation;
 mod slots;
 mod step;
 mod store;
 
 pub use log::Log;
+pub use reading::{Entries, Held};
 #[doc(hidden)]
 pub use relation::Relation;
 #[doc(hidden)]
 pub use slots::Slots;
-pub use step::Step;
-#[doc(hidden)]
-pub use step::{Changes, Parts, Whole};
+pub use step::{Changes, Parts, Step, Whole};
 pub use store::Store;
 pub use term_changes::{Entry, Kept, Plan, Replaced, Text};

@@ -7,8 +7,8 @@ ghost use Rattle.term_changes.specs.Compact.{IsCompact};
 ghost use Rattle.term_changes.specs.LogView.{entry_of};
 ghost use Rattle.term_changes.specs.inside.LogView.{entries, depths};
 
-use crate::Store;
 use crate::compact::compact;
+use crate::{Entries, Store};
 use std::alloc::Global;
 use std::marker::Model;
 use term_changes::{Entry, Kept, Plan, Replaced};
@@ -72,6 +72,16 @@ impl Log {
         ensures { result ≡ length self.now }
     {
         self.count()
+    }
+
+    /// The entries, to be read.
+    pub fn entries(&self) -> Entries<'_>
+        ensures { result ≡ self.now }
+    {
+        Entries {
+            replaced: self.replaced.as_slice(),
+            paths: self.paths.as_slice(),
+        }
     }
 
     /// Whether an entry holds a module text.

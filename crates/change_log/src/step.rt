@@ -5,7 +5,7 @@ ghost use Rattle.term_changes.specs.Slots.{Store};
 ghost use Rattle.term_changes.specs.Entries.{slot_text, put, found, before, after, flipped_back, flipped_forward, has_text, Fits};
 ghost use Rattle.term_changes.specs.Compact.{IsCompact};
 ghost use Rattle.term_changes.specs.PatchLaws.{patch_entries};
-ghost use Rattle.change_log.specs.inside.StepView.{whole_entry, part_entries};
+ghost use Rattle.change_log.specs.Reading.{whole_entry, part_entries, entries_of};
 
 use crate::{Log, Store};
 use std::alloc::Global;
@@ -34,16 +34,16 @@ pub enum Changes {
 /// What changes in the subterm that a path leads to in a slot's tree replaced.
 #[derive(Drop)]
 pub struct Parts {
-    pub(crate) slot: usize,
-    pub(crate) path: Vec<usize>,
-    pub(crate) patch: Patch,
+    pub slot: usize,
+    pub path: Vec<usize>,
+    pub patch: Patch,
 }
 
 /// What a change of a whole tree or module text replaced.
 #[derive(Drop)]
 pub struct Whole {
-    pub(crate) slot: usize,
-    pub(crate) kept: Kept,
+    pub slot: usize,
+    pub kept: Kept,
 }
 
 impl Model for Step {
@@ -56,7 +56,7 @@ impl Model for Step {
 
     ghost coded = { coded_list entry_code };
 
-    ghost use Rattle.change_log.specs.inside.StepView.{entries_of};
+    ghost use Rattle.change_log.specs.Reading.{entries_of};
 
     ghost view = { λ a. entries_of a.changes };
 }
@@ -123,6 +123,13 @@ impl Step {
         Step {
             changes: Changes::Patched(parts),
         }
+    }
+
+    /// The changes, to be read.
+    pub fn changes(&self) -> &Changes
+        ensures { entries_of result.now ≡ self.now }
+    {
+        &self.changes
     }
 
     /// Whether it has no changes.

@@ -98,6 +98,14 @@ impl Store {
         }
     }
 
+    /// The name of the tree whose slot this is, or `None` if there is no such slot.
+    pub fn tree_name(&self, slot: usize) -> Option<&Label>
+        ensures label { option_copied result ≡ option_map (λ s. s.0) (slice_get self.now.trees slot) }
+        ensures apart { HaveDistinctLabels self.now.trees }
+    {
+        self.trees.label(slot)
+    }
+
     /// The name of the module whose slot this is, or `None` if there is no such slot.
     pub fn module_name(&self, slot: usize) -> Option<&Label>
         ensures label { option_copied result ≡ option_map (λ s. s.0) (slice_get self.now.modules slot) }

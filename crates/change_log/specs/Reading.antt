@@ -1,8 +1,10 @@
--- What the fields of a step represent.
-use Rattle.std.specs.Prelude.{List, [], ◌∷◌}
+-- Reading steps and logs.
+use Rattle.std.specs.Prelude.{◌≡◌, List, [], ◌∷◌, Some, None}
+use Rattle.std.specs.declared.option.Option.{Option}
 use Rattle.term_changes.specs.Entries.{Entry}
 use Rattle.term_changes.specs.LogView.{entry_of}
 use Rattle.term_changes.specs.PatchLaws.{patch_entries}
+use Rattle.change_log.specs.declared.reading.Held.{Held}
 use Rattle.change_log.specs.declared.step.Whole.{Whole}
 use Rattle.change_log.specs.declared.step.Parts.{Parts}
 use Rattle.change_log.specs.declared.step.Changes.{Changes}
@@ -21,3 +23,11 @@ abbrev pub entries_of : Changes → List Entry
 entries_of (One w) = whole_entry w ∷ []
 entries_of (Patched p) = part_entries p
 entries_of (Logged log) = log
+
+abbrev pub held_entry : Held → Entry
+held_entry h = entry_of h.slot h.path.now h.kept.now
+
+-- From the first entries to the second this one was read.
+abbrev pub IsNextEntry : List Entry → Option Held → List Entry → Type 0
+IsNextEntry old None new = old ≡ []
+IsNextEntry old (Some h) new = old ≡ held_entry h ∷ new
