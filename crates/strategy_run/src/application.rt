@@ -13,7 +13,7 @@ ghost use Rattle.strategy_machine.specs.Turns.{world_of};
 ghost use Rattle.strategy_run.specs.Applies.{Applies, PutsAll, Stay, applied_in};
 ghost use Rattle.strategy_run.specs.inside.Finding.{Finds};
 
-use crate::ended::Ended;
+use crate::ended::{Ended, when_done};
 use crate::evaluation::run_to_end;
 use crate::in_place::put_in_place;
 use crate::looking::Unseen;
@@ -88,79 +88,59 @@ pub fn apply<M: Meaning>(
     let Some(tree) = store.tree(slot) else {
         return Ok(Ended::Failed);
     };
-    match plan_edits(
-        alloc, program, primitives, tree, slot, path, room, strategy, steps,
-    )? {
-        Ended::Done(plan) => {
-            put_in_place(plan, store, log)?;
-            Ok(Ended::Done(()))
-        }
-        Ended::Failed => Ok(Ended::Failed),
-        Ended::Spent => Ok(Ended::Spent),
-        Ended::Big => Ok(Ended::Big),
-    }
+    let host = Host {
+        definitions: program.definitions(),
+        primitives,
+        room,
+    };
+    let found = plan_edits(alloc, &host, tree, slot, path, strategy, steps)?;
+    when_done!(found, plan => put_in_place(plan, store, log)?)
 }
 
 // Runs the strategy on the subterm at the path of the tree, which is left unchanged. `Done` has the
 // plan of what to put into the tree.
 fn plan_edits<M: Meaning>(
     alloc: Global,
-    program: &Program,
-    primitives: &Primitives<M>,
+    host: &Host<'_, M>,
     tree: &Term,
     slot: usize,
     path: &Path,
-    room: u32,
     strategy: &Resolved,
     steps: u64,
 ) -> Result<Ended<Plan>, NoMemory>
-    requires room { room ≤ MAX_ROOM }
+    requires room { host.now.room ≤ MAX_ROOM }
     requires low { IfSome (found_at tree.now path.now) (λ u. length path.now + height u ≤ MAX_HEIGHT) }
     ensures { IfOk result (λ found. (s : Store) → content s.trees slot ≡ Some tree.now → Finds s slot
-        (applied (world_of M.meaning program.now.bodies primitives.now room) path.now strategy.now steps tree.now) found) }
+        (applied (world_of M.meaning host.now.definitions.now host.now.primitives.now host.now.room)
+        path.now strategy.now steps tree.now) found) }
 {
     let Some(term) = at(tree, path) else {
         return Ok(Ended::Failed);
     };
     let trail = Trail::listed(alloc);
     let mut m = Machine::new(alloc, trail, term, path.len() as u64, steps);
-    plan_edits_by(
-        alloc, program, primitives, room, &mut m, term, strategy, slot, path,
-    )
+    plan_edits_by(alloc, host, &mut m, term, strategy, slot, path)
 }
 
 // Runs it on a machine without frames. The machine is borrowed, since its owner drops it on each
 // way out.
 fn plan_edits_by<'t, M: Meaning>(
     alloc: Global,
-    program: &'t Program,
-    primitives: &'t Primitives<M>,
-    room: u32,
+    host: &Host<'t, M>,
     m: &mut Machine<'t>,
     term: &'t Term,
     strategy: &'t Resolved,
     slot: usize,
     path: &Path,
 ) -> Result<Ended<Plan>, NoMemory>
-    requires room { room ≤ MAX_ROOM }
+    requires room { host.now.room ≤ MAX_ROOM }
     requires empty { IsEmpty m.old }
     requires level { m.old.level ≡ length path.now }
     requires low { length path.now + height term.now ≤ MAX_HEIGHT }
     ensures { IfOk result (λ found. (tree : Tree) (s : Store) → found_at tree path.now ≡ Some term.entry.now → content s.trees slot ≡ Some tree
-        → Finds s slot (applied (world_of M.meaning program.entry.now.bodies primitives.entry.now room) path.now strategy.entry.now m.old.steps tree) found) }
+        → Finds s slot (applied (world_of M.meaning host.now.definitions.now host.now.primitives.now host.now.room)
+        path.now strategy.entry.now m.old.steps tree) found) }
 {
-    let host = Host {
-        definitions: program.definitions(),
-        primitives,
-        room,
-    };
-    match run_to_end(alloc, &host, m, strategy, term, &mut Unseen)? {
-        Ended::Done(()) => {
-            let plan = m.trail.replacements(alloc, slot, path.parts())?;
-            Ok(Ended::Done(plan))
-        }
-        Ended::Failed => Ok(Ended::Failed),
-        Ended::Spent => Ok(Ended::Spent),
-        Ended::Big => Ok(Ended::Big),
-    }
+    let ended = run_to_end(alloc, host, m, strategy, term, &mut Unseen)?;
+    when_done!(ended, () => m.trail.replacements(alloc, slot, path.parts())?)
 }

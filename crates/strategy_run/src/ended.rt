@@ -12,3 +12,17 @@ pub enum Ended<R> {
     /// A term didn't fit.
     Big,
 }
+
+/// Goes on with what a run succeeded with. Another end is that of the whole.
+macro_rules! when_done {
+    ($ended:expr, $done:pat => $then:expr) => {
+        match $ended {
+            Ended::Done($done) => Ok(Ended::Done($then)),
+            Ended::Failed => Ok(Ended::Failed),
+            Ended::Spent => Ok(Ended::Spent),
+            Ended::Big => Ok(Ended::Big),
+        }
+    };
+}
+
+pub(crate) use when_done;

@@ -9,7 +9,7 @@ ghost use Rattle.strategy_machine.specs.Turns.{world_of};
 ghost use Rattle.strategy_run.specs.inside.Runs.{Ends, IsEmpty};
 ghost use Rattle.strategy_run.specs.Ends.{IsAnswered};
 
-use crate::ended::Ended;
+use crate::ended::{Ended, when_done};
 use crate::looking::{Look, Unseen};
 use prim_core::{Meaning, Primitives};
 use std::alloc::Global;
@@ -47,38 +47,33 @@ pub fn evaluate<M: Meaning>(
     ensures { IfOk result (λ evaluated. IsAnswered evaluated
         (run_whole (world_of M.meaning program.now.bodies primitives.now room) level strategy.now steps term.now)) }
 {
+    let host = Host {
+        definitions: program.definitions(),
+        primitives,
+        room,
+    };
     let mut m = Machine::new(alloc, Trail::counted(), term, level, steps);
-    evaluate_by(alloc, program, primitives, room, &mut m, term, strategy)
+    evaluate_by(alloc, &host, &mut m, term, strategy)
 }
 
 // Evaluates it on a machine without frames. The machine is borrowed, since its owner drops it on
 // each way out.
 fn evaluate_by<'t, M: Meaning>(
     alloc: Global,
-    program: &'t Program,
-    primitives: &'t Primitives<M>,
-    room: u32,
+    host: &Host<'t, M>,
     m: &mut Machine<'t>,
     term: &'t Term,
     strategy: &'t Resolved,
 ) -> Result<Evaluated, NoMemory>
-    requires room { room ≤ MAX_ROOM }
+    requires room { host.now.room ≤ MAX_ROOM }
     requires empty { IsEmpty m.old }
     requires low { m.old.level + height term.now ≤ MAX_HEIGHT }
     ensures { IfOk result (λ evaluated. IsAnswered evaluated
-        (run_whole (world_of M.meaning program.entry.now.bodies primitives.entry.now room) m.old.level strategy.entry.now m.old.steps term.entry.now)) }
+        (run_whole (world_of M.meaning host.now.definitions.now host.now.primitives.now host.now.room)
+        m.old.level strategy.entry.now m.old.steps term.entry.now)) }
 {
-    let host = Host {
-        definitions: program.definitions(),
-        primitives,
-        room,
-    };
-    match run_to_end(alloc, &host, m, strategy, term, &mut Unseen)? {
-        Ended::Done(()) => Ok(Ended::Done(m.part.value()?.to_term(alloc)?)),
-        Ended::Failed => Ok(Ended::Failed),
-        Ended::Spent => Ok(Ended::Spent),
-        Ended::Big => Ok(Ended::Big),
-    }
+    let ended = run_to_end(alloc, host, m, strategy, term, &mut Unseen)?;
+    when_done!(ended, () => m.part.value()?.to_term(alloc)?)
 }
 
 /// Runs a machine without frames to its end. If that is `Done`, its part is the result.
@@ -94,7 +89,8 @@ pub(crate) fn run_to_end<'t, M: Meaning, L: Look<'t>>(
     requires empty { IsEmpty m.old }
     requires low { m.old.level + height term.now ≤ MAX_HEIGHT }
     ensures { IfOk result (λ ended. Ends (unchanged term.entry.now) m.new ended
-        (run_whole (world_of M.meaning host.now.definitions.now host.now.primitives.now host.now.room) m.old.level strategy.entry.now m.old.steps term.entry.now)) }
+        (run_whole (world_of M.meaning host.now.definitions.now host.now.primitives.now host.now.room)
+        m.old.level strategy.entry.now m.old.steps term.entry.now)) }
 {
     // the strategy runs in a scope without variables and names
     m.scopes.add_variables(None, 0, 0)?;

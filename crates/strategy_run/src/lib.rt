@@ -14,3 +14,4 @@ pub use ended::Ended;
 pub use evaluation::{Evaluated, evaluate};
 pub use looking::{Look, plan_patch_seen};
 pub use planning::{Planned, plan_patch};
+pub use strategy_machine::Host;

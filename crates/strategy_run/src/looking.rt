@@ -9,10 +9,9 @@ ghost use Rattle.strategy_run.specs.Planning.{Plans};
 
 use crate::ended::Ended;
 use crate::planning::{Planned, plan_patch_by};
-use prim_core::{Meaning, Primitives};
+use prim_core::Meaning;
 use std::alloc::Global;
-use strategy_check::Program;
-use strategy_machine::{Machine, Trail};
+use strategy_machine::{Host, Machine, Trail};
 use strategy_syntax::Resolved;
 use term_core::{MAX_HEIGHT, NoMemory, Term};
 
@@ -49,22 +48,19 @@ impl<'t> Look<'t> for Unseen {
 /// As [`crate::plan_patch`], with an observer that sees the machine between the turns.
 pub fn plan_patch_seen<'t, M: Meaning, L: Look<'t>>(
     alloc: Global,
-    program: &'t Program,
-    primitives: &'t Primitives<M>,
+    host: &Host<'t, M>,
     term: &'t Term,
     level: u64,
-    room: u32,
     strategy: &'t Resolved,
     steps: u64,
     look: &mut L,
 ) -> Result<Ended<Planned>, NoMemory>
-    requires room { room ≤ MAX_ROOM }
+    requires room { host.now.room ≤ MAX_ROOM }
     requires low { level + height term.now ≤ MAX_HEIGHT }
     ensures { IfOk result (Plans term.entry.now steps
-        (run_whole (world_of M.meaning program.entry.now.bodies primitives.entry.now room) level strategy.entry.now steps term.entry.now)) }
+        (run_whole (world_of M.meaning host.now.definitions.now host.now.primitives.now host.now.room)
+        level strategy.entry.now steps term.entry.now)) }
 {
     let mut m = Machine::new(alloc, Trail::counted(), term, level, steps);
-    plan_patch_by(
-        alloc, program, primitives, room, &mut m, term, strategy, look,
-    )
+    plan_patch_by(alloc, host, &mut m, term, strategy, look)
 }

@@ -8,12 +8,11 @@ ghost use Rattle.strategy_machine.specs.Turns.{world_of};
 ghost use Rattle.strategy_run.specs.inside.Runs.{IsEmpty};
 ghost use Rattle.strategy_run.specs.Planning.{Plans};
 
-use crate::ended::Ended;
+use crate::ended::{Ended, when_done};
 use crate::evaluation::run_to_end;
 use crate::looking::{Look, Unseen};
-use prim_core::{Meaning, Primitives};
+use prim_core::Meaning;
 use std::alloc::Global;
-use strategy_check::Program;
 use strategy_machine::{Host, Machine, Trail};
 use strategy_syntax::Resolved;
 use term_changes::Patch;
@@ -28,9 +27,9 @@ pub struct Planned {
     pub taken: u64,
 }
 
-/// Runs a strategy on the term, which has so many levels above it, in at most `steps` steps. Terms
-/// that it builds have at most the size `room`. The level and the height of the term come to at
-/// most 1,000 together.
+/// Runs a strategy on the term, which has so many levels above it, in at most `steps` steps, with
+/// these definitions, primitives and room for the terms that it builds. The level and the height of
+/// the term come to at most 1,000 together.
 ///
 /// Returns `Done` with what that would replace in the term, as a patch of it, `Failed` if the
 /// strategy fails, `Spent` if it needs more steps, or `Big` if it makes a term that doesn't fit.
@@ -41,66 +40,45 @@ pub struct Planned {
 /// Errors: only want of memory.
 pub fn plan_patch<M: Meaning>(
     alloc: Global,
-    program: &Program,
-    primitives: &Primitives<M>,
+    host: &Host<'_, M>,
     term: &Term,
     level: u64,
-    room: u32,
     strategy: &Resolved,
     steps: u64,
 ) -> Result<Ended<Planned>, NoMemory>
-    requires room { room ≤ MAX_ROOM }
+    requires room { host.now.room ≤ MAX_ROOM }
     requires low { level + height term.now ≤ MAX_HEIGHT }
     ensures { IfOk result (Plans term.now steps
-        (run_whole (world_of M.meaning program.now.bodies primitives.now room) level strategy.now steps term.now)) }
+        (run_whole (world_of M.meaning host.now.definitions.now host.now.primitives.now host.now.room)
+        level strategy.now steps term.now)) }
 {
     let mut m = Machine::new(alloc, Trail::counted(), term, level, steps);
-    plan_patch_by(
-        alloc,
-        program,
-        primitives,
-        room,
-        &mut m,
-        term,
-        strategy,
-        &mut Unseen,
-    )
+    plan_patch_by(alloc, host, &mut m, term, strategy, &mut Unseen)
 }
 
 // Runs it on a machine without frames. The machine is borrowed, since its owner drops it on each
 // way out.
 pub(crate) fn plan_patch_by<'t, M: Meaning, L: Look<'t>>(
     alloc: Global,
-    program: &'t Program,
-    primitives: &'t Primitives<M>,
-    room: u32,
+    host: &Host<'t, M>,
     m: &mut Machine<'t>,
     term: &'t Term,
     strategy: &'t Resolved,
     look: &mut L,
 ) -> Result<Ended<Planned>, NoMemory>
-    requires room { room ≤ MAX_ROOM }
+    requires room { host.now.room ≤ MAX_ROOM }
     requires empty { IsEmpty m.old }
     requires low { m.old.level + height term.now ≤ MAX_HEIGHT }
     ensures { IfOk result (Plans term.entry.now m.old.steps
-        (run_whole (world_of M.meaning program.entry.now.bodies primitives.entry.now room) m.old.level strategy.entry.now m.old.steps term.entry.now)) }
+        (run_whole (world_of M.meaning host.now.definitions.now host.now.primitives.now host.now.room)
+        m.old.level strategy.entry.now m.old.steps term.entry.now)) }
 {
-    let host = Host {
-        definitions: program.definitions(),
-        primitives,
-        room,
-    };
     let steps = m.steps;
-    let ended = run_to_end(alloc, &host, m, strategy, term, look)?;
+    let ended = run_to_end(alloc, host, m, strategy, term, look)?;
     look.at_end(m)?;
-    match ended {
-        Ended::Done(()) => {
-            let patch = m.part.patch(alloc)?;
-            let taken = steps.saturating_sub(m.steps);
-            Ok(Ended::Done(Planned { patch, taken }))
-        }
-        Ended::Failed => Ok(Ended::Failed),
-        Ended::Spent => Ok(Ended::Spent),
-        Ended::Big => Ok(Ended::Big),
-    }
+    when_done!(ended, () => {
+        let patch = m.part.patch(alloc)?;
+        let taken = steps.saturating_sub(m.steps);
+        Planned { patch, taken }
+    })
 }

@@ -18,19 +18,25 @@ pub returns-in-Failed-clause-applies : goal.returns-in-Failed-clause-applies
 returns-in-Failed-clause-applies g c =
     let there : content c.args.store.now.trees c.args.slot ≡ Some c.in-Some.tree.now = sym c.tree.ensures ∙ ap (λ o. option_copied o) c.in-Some.is in
     let into = in_tree (world_of g.M.Meaning.meaning c.args.program.now.bodies c.args.primitives.now c.args.room) c.args.store.now c.args.slot c.args.path.now c.args.strategy.now c.args.steps c.in-Some.tree.now there in
-    (into ∙ (subst (λ (f : Ended (List Entry)). Finds c.args.store.now c.args.slot (applied (world_of g.M.Meaning.meaning c.args.program.now.bodies c.args.primitives.now c.args.room) c.args.path.now c.args.strategy.now c.args.steps c.in-Some.tree.now) f) c.in-Failed.is (c.in_ok-plan.ensures c.args.store.now there)), record { store = refl; log = refl })
+    let found = subst (λ bodies. Finds c.args.store.now c.args.slot (applied (world_of g.M.Meaning.meaning bodies c.args.primitives.now c.args.room) c.args.path.now c.args.strategy.now c.args.steps c.in-Some.tree.now) c.in_ok-found.found)
+    c.definitions.ensures (c.in_ok-found.ensures c.args.store.now there) in
+    (into ∙ (subst (λ (f : Ended (List Entry)). Finds c.args.store.now c.args.slot (applied (world_of g.M.Meaning.meaning c.args.program.now.bodies c.args.primitives.now c.args.room) c.args.path.now c.args.strategy.now c.args.steps c.in-Some.tree.now) f) c.in-Failed.is found), record { store = refl; log = refl })
 
 pub returns-in-Spent-clause-applies : goal.returns-in-Spent-clause-applies
 returns-in-Spent-clause-applies g c =
     let there : content c.args.store.now.trees c.args.slot ≡ Some c.in-Some.tree.now = sym c.tree.ensures ∙ ap (λ o. option_copied o) c.in-Some.is in
     let into = in_tree (world_of g.M.Meaning.meaning c.args.program.now.bodies c.args.primitives.now c.args.room) c.args.store.now c.args.slot c.args.path.now c.args.strategy.now c.args.steps c.in-Some.tree.now there in
-    (into ∙ (subst (λ (f : Ended (List Entry)). Finds c.args.store.now c.args.slot (applied (world_of g.M.Meaning.meaning c.args.program.now.bodies c.args.primitives.now c.args.room) c.args.path.now c.args.strategy.now c.args.steps c.in-Some.tree.now) f) c.in-Spent.is (c.in_ok-plan.ensures c.args.store.now there)), record { store = refl; log = refl })
+    let found = subst (λ bodies. Finds c.args.store.now c.args.slot (applied (world_of g.M.Meaning.meaning bodies c.args.primitives.now c.args.room) c.args.path.now c.args.strategy.now c.args.steps c.in-Some.tree.now) c.in_ok-found.found)
+    c.definitions.ensures (c.in_ok-found.ensures c.args.store.now there) in
+    (into ∙ (subst (λ (f : Ended (List Entry)). Finds c.args.store.now c.args.slot (applied (world_of g.M.Meaning.meaning c.args.program.now.bodies c.args.primitives.now c.args.room) c.args.path.now c.args.strategy.now c.args.steps c.in-Some.tree.now) f) c.in-Spent.is found), record { store = refl; log = refl })
 
 pub returns-in-Big-clause-applies : goal.returns-in-Big-clause-applies
 returns-in-Big-clause-applies g c =
     let there : content c.args.store.now.trees c.args.slot ≡ Some c.in-Some.tree.now = sym c.tree.ensures ∙ ap (λ o. option_copied o) c.in-Some.is in
     let into = in_tree (world_of g.M.Meaning.meaning c.args.program.now.bodies c.args.primitives.now c.args.room) c.args.store.now c.args.slot c.args.path.now c.args.strategy.now c.args.steps c.in-Some.tree.now there in
-    (into ∙ (subst (λ (f : Ended (List Entry)). Finds c.args.store.now c.args.slot (applied (world_of g.M.Meaning.meaning c.args.program.now.bodies c.args.primitives.now c.args.room) c.args.path.now c.args.strategy.now c.args.steps c.in-Some.tree.now) f) c.in-Big.is (c.in_ok-plan.ensures c.args.store.now there)), record { store = refl; log = refl })
+    let found = subst (λ bodies. Finds c.args.store.now c.args.slot (applied (world_of g.M.Meaning.meaning bodies c.args.primitives.now c.args.room) c.args.path.now c.args.strategy.now c.args.steps c.in-Some.tree.now) c.in_ok-found.found)
+    c.definitions.ensures (c.in_ok-found.ensures c.args.store.now there) in
+    (into ∙ (subst (λ (f : Ended (List Entry)). Finds c.args.store.now c.args.slot (applied (world_of g.M.Meaning.meaning c.args.program.now.bodies c.args.primitives.now c.args.room) c.args.path.now c.args.strategy.now c.args.steps c.in-Some.tree.now) f) c.in-Big.is found), record { store = refl; log = refl })
 
 pub plan_edits-requires : goal.plan_edits-requires
 plan_edits-requires g c =
@@ -41,7 +47,9 @@ pub returns-in_ok-put_in_place-in-Done-clause-applies : goal.returns-in_ok-put_i
 returns-in_ok-put_in_place-in-Done-clause-applies g c =
     let there : content c.args.store.now.trees c.args.slot ≡ Some c.in-Some.tree.now = sym c.tree.ensures ∙ ap (λ o. option_copied o) c.in-Some.is in
     let into = in_tree (world_of g.M.Meaning.meaning c.args.program.now.bodies c.args.primitives.now c.args.room) c.args.store.now c.args.slot c.args.path.now c.args.strategy.now c.args.steps c.in-Some.tree.now there in
-    let f = subst (λ (f : Ended (List Entry)). Finds c.args.store.now c.args.slot (applied (world_of g.M.Meaning.meaning c.args.program.now.bodies c.args.primitives.now c.args.room) c.args.path.now c.args.strategy.now c.args.steps c.in-Some.tree.now) f) c.in-Done.is (c.in_ok-plan.ensures c.args.store.now there) in
+    let found = subst (λ bodies. Finds c.args.store.now c.args.slot (applied (world_of g.M.Meaning.meaning bodies c.args.primitives.now c.args.room) c.args.path.now c.args.strategy.now c.args.steps c.in-Some.tree.now) c.in_ok-found.found)
+    c.definitions.ensures (c.in_ok-found.ensures c.args.store.now there) in
+    let f = subst (λ (f : Ended (List Entry)). Finds c.args.store.now c.args.slot (applied (world_of g.M.Meaning.meaning c.args.program.now.bodies c.args.primitives.now c.args.room) c.args.path.now c.args.strategy.now c.args.steps c.in-Some.tree.now) f) c.in-Done.is found in
     puts (applied_in (world_of g.M.Meaning.meaning c.args.program.now.bodies c.args.primitives.now c.args.room) c.args.store.now.trees c.args.slot c.args.path.now c.args.strategy.now c.args.steps) c.in-Done.plan c.args.slot c.args.store.now c.put_in_place.new.store c.args.log.now c.put_in_place.new.log
     (subst (λ w. FindsAll c.args.store.now c.args.slot w c.in-Done.plan) (sym into) f)
     c.in_ok-put_in_place-in-Done.ensures.store c.in_ok-put_in_place-in-Done.ensures.log c.in_ok-put_in_place-in-Done.ensures.leads_back c.in_ok-put_in_place-in-Done.ensures.fits
