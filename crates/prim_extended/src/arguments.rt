@@ -1,20 +1,12 @@
-//! The values of arguments, whose annotations are ignored.
+//! The values of arguments that the standard primitives don't have.
 
-ghost use Rattle.std.specs.Prelude.{◌≡◌, length, IfSome, IfNone, Some, None};
+ghost use Rattle.std.specs.Prelude.{◌≡◌, length};
 ghost use Rattle.std.specs.Option.{option_copied};
-ghost use Rattle.prim_core.specs.Values.{integer_value, string_value, one, two};
+ghost use Rattle.prim_core.specs.Values.{one};
 ghost use Rattle.prim_extended.specs.Bytes.{list_value, byte_value};
 
+use prim_core::standard::arguments::integer;
 use term_core::{Kind, Term};
-
-fn integer(term: &Term) -> Option<i64>
-    ensures { result ≡ integer_value term.now }
-{
-    match term.kind() {
-        Kind::Integer(value) => Some(value),
-        _ => None,
-    }
-}
 
 /// The byte, if the term is an integer from 0 to 255.
 pub fn byte(term: &Term) -> Option<u8>
@@ -24,36 +16,6 @@ pub fn byte(term: &Term) -> Option<u8>
     u8::try_from(value).ok()
 }
 
-fn string(term: &Term) -> Option<&[u8]>
-    ensures { option_copied result ≡ string_value term.now }
-{
-    match term.kind() {
-        Kind::Application(name) if name.is_quoted() && term.child_count() == 0 => {
-            Some(name.bytes())
-        }
-        _ => None,
-    }
-}
-
-/// The two arguments, if both are integers.
-pub fn two_integers(arguments: &[Term]) -> Option<(i64, i64)>
-    requires { length arguments.now ≡ 2 }
-    ensures { result ≡ two integer_value arguments.now }
-{
-    match (integer(&arguments[0]), integer(&arguments[1])) {
-        (Some(a), Some(b)) => Some((a, b)),
-        _ => None,
-    }
-}
-
-/// The bytes of the only argument, if it is a string.
-pub fn one_string(arguments: &[Term]) -> Option<&[u8]>
-    requires { length arguments.now ≡ 1 }
-    ensures { option_copied result ≡ one string_value arguments.now }
-{
-    string(&arguments[0])
-}
-
 /// The elements of the only argument, if it is a list.
 pub fn one_list(arguments: &[Term]) -> Option<&[Term]>
     requires { length arguments.now ≡ 1 }
@@ -61,19 +23,6 @@ pub fn one_list(arguments: &[Term]) -> Option<&[Term]>
 {
     match arguments[0].kind() {
         Kind::List => Some(arguments[0].children()),
-        _ => None,
-    }
-}
-
-/// The bytes of the two arguments, if both are strings.
-pub fn two_strings(arguments: &[Term]) -> Option<(&[u8], &[u8])>
-    requires { length arguments.now ≡ 2 }
-    ensures some { IfSome result (λ both. two string_value arguments.now
-        ≡ Some (both.0.now, both.1.now)) }
-    ensures none { IfNone result (two string_value arguments.now ≡ None) }
-{
-    match (string(&arguments[0]), string(&arguments[1])) {
-        (Some(a), Some(b)) => Some((a, b)),
         _ => None,
     }
 }

@@ -3,7 +3,7 @@
 ghost use Rattle.std.specs.Prelude.{◌≡◌, length, IfOk, codes};
 ghost use Rattle.prim_extended.specs.Extended.{extended};
 
-use crate::arguments::two_integers;
+use prim_core::standard::arguments::two_integers;
 use std::alloc::Global;
 use term_core::{NoMemory, Term};
 

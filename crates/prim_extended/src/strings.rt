@@ -6,8 +6,9 @@ ghost use Rattle.prim_core.specs.Values.{string_term};
 ghost use Rattle.prim_extended.specs.Bytes.{byte_term, byte_value, each};
 ghost use Rattle.prim_extended.specs.Extended.{extended};
 
-use crate::arguments::{byte, one_list, one_string, two_strings};
+use crate::arguments::{byte, one_list};
 use prim_core::MAX_STRING;
+use prim_core::standard::arguments::{one_string, two_strings};
 use std::alloc::Global;
 use term_core::{Name, NoMemory, Term};
 

@@ -1,4 +1,4 @@
-//! The values of arguments, whose annotations are ignored.
+//! The values of arguments, whose annotations are ignored, for this and other sets of primitives.
 
 ghost use Rattle.std.specs.Prelude.{◌≡◌, length, IfSome, IfNone, Some, None};
 ghost use Rattle.std.specs.Option.{option_copied};
@@ -6,7 +6,8 @@ ghost use Rattle.prim_core.specs.Values.{integer_value, string_value, one, two};
 
 use term_core::{Kind, Term};
 
-fn integer(term: &Term) -> Option<i64>
+/// The integer that the term is.
+pub fn integer(term: &Term) -> Option<i64>
     ensures { result ≡ integer_value term.now }
 {
     match term.kind() {
@@ -15,7 +16,8 @@ fn integer(term: &Term) -> Option<i64>
     }
 }
 
-fn string(term: &Term) -> Option<&[u8]>
+/// The bytes of the string that the term is.
+pub fn string(term: &Term) -> Option<&[u8]>
     ensures { option_copied result ≡ string_value term.now }
 {
     match term.kind() {

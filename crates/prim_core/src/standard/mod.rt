@@ -1,7 +1,7 @@
 //! The standard primitives. The names are this project's own. The modules are public, so that a
 //! host can box a function by its name.
 
-mod arguments;
+pub mod arguments;
 pub mod integers;
 pub mod operations;
 pub mod strings;
