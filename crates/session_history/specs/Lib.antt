@@ -6,6 +6,8 @@ pub mod Acts
 pub mod Moving
 pub mod Preview
 pub mod Dump
+pub mod Differences
+pub mod DifferenceLaws
 pub mod Laws
 pub use Rattle.term_core.specs.Tree
 pub use Rattle.term_core.specs.Size

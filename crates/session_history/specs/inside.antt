@@ -2,3 +2,8 @@ pub mod Adding
 pub mod Codes
 pub mod Giving
 pub mod View
+pub mod Sides
+pub mod Lined
+pub mod ReadPatches
+pub mod Told
+pub mod NamedPairs

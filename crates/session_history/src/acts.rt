@@ -2,11 +2,12 @@
 //! changes nothing.
 #![tactic(auto, using(crate::proofs::ActLemmas::acting))]
 
-ghost use Rattle.std.specs.Prelude.{◌≡◌, Err, IfOk, IfErr};
+ghost use Rattle.std.specs.Prelude.{◌≡◌, Some, Err, IfOk, IfErr};
 ghost use Rattle.std.specs.Bool.{OnFalse};
 ghost use Rattle.std.specs.List.{list_all};
 ghost use Rattle.term_core.specs.Size.{fits};
 ghost use Rattle.term_changes.specs.Slots.{contents};
+ghost use Rattle.term_changes.specs.Entries.{subterm_in};
 ghost use Rattle.session_history.specs.Acts.{set_tree, copy_tree, drop_tree, put, annotate, undo, redo, begin, abandon, place_of};
 ghost use Rattle.session_history.specs.Unfolded.{IsPlaceOf};
 ghost use Rattle.session_history.specs.Moving.{PerformsOn, PerformsSurelyOn};
@@ -59,7 +60,7 @@ impl Timeline {
     pub fn put(&mut self, name: &Label, path: &Path, part: Term) -> Result<(), Refusal>
         ensures { PerformsOn (put name.now path.now part) self.old self.new result }
     {
-        let slot = self.place(name, path)?;
+        let (slot, _) = self.place(name, path)?;
         if !part.fits(path.len() as u64, self.limits().max_terms) {
             return Err(Refusal::Big);
         }
@@ -76,7 +77,7 @@ impl Timeline {
     ) -> Result<(), Refusal>
         ensures { PerformsOn (annotate name.now path.now annotations.items) self.old self.new result }
     {
-        let slot = self.place(name, path)?;
+        let (slot, _) = self.place(name, path)?;
         let level = path.parts().len() as u64 + 1;
         if !all_fit(&annotations, level, self.limits().max_terms) {
             return Err(Refusal::Big);
@@ -85,19 +86,20 @@ impl Timeline {
         Ok(())
     }
 
-    /// The slot of the name's tree, if that has a subterm at the path.
-    pub fn place(&self, name: &Label, path: &Path) -> Result<usize, Refusal>
-        ensures there { IfOk result (λ slot. IsPlaceOf self.now.store name.now path.now slot) }
+    /// The slot of the name's tree, and its subterm at the path, if there is one.
+    pub fn place(&self, name: &Label, path: &Path) -> Result<(usize, &Term), Refusal>
+        ensures there { IfOk result (λ found. IsPlaceOf self.now.store name.now path.now found.0) }
+        ensures part { IfOk result (λ found. subterm_in self.now.store.trees found.0 path.now ≡ Some found.1.now) }
         ensures refused { IfErr result (λ refusal. place_of (contents self.now.store) name.now path.now
             ≡ Err refusal) }
     {
         let Some((slot, tree)) = find_tree(self.store(), name) else {
             return Err(Refusal::NoTree);
         };
-        if at(tree, path).is_none() {
+        let Some(part) = at(tree, path) else {
             return Err(Refusal::Path);
-        }
-        Ok(slot)
+        };
+        Ok((slot, part))
     }
 
     /// Goes `n` steps back. Returns whether module texts may have changed.

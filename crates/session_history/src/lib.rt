@@ -3,10 +3,15 @@
 #![tactic(auto)]
 
 mod acts;
+mod diff;
+mod differences;
 mod dump;
 mod finding;
+pub mod laws;
 mod limits;
+mod lines;
 mod modules;
+mod patches;
 mod timeline;
 
 pub use limits::Limits;

@@ -1,6 +1,6 @@
 //! Steps over one store: the logs that lead back from each, or forward again.
 
-ghost use Rattle.std.specs.Prelude.{◌≡◌, ◌⊎◌, ◌<◌, ◌≤◌, ◌+◌, ◌-◌, ◌++◌, ℕ, List, [], ◌∷◌, length, take, slice_get, vec_capacity, IfOk, IfSome, OnOk, OnErr, Some, None, Ok, Err, IsSome, IsSomeAnd, true, false, is_some, option_copied, option_map, IfErr};
+ghost use Rattle.std.specs.Prelude.{◌≡◌, ◌⊎◌, ◌<◌, ◌≤◌, ◌+◌, ◌-◌, ◌++◌, ℕ, List, [], ◌∷◌, length, take, slice_get, vec_capacity, IfOk, IfSome, IfNone, OnOk, OnErr, Some, None, Ok, Err, IsSome, IsSomeAnd, true, false, is_some, option_copied, option_map, IfErr};
 ghost use Rattle.std.specs.Bool.{OnFalse};
 ghost use Rattle.std.specs.Option.{option_map_or};
 ghost use Rattle.std.specs.FinMap as finmap;
@@ -8,14 +8,17 @@ ghost use Rattle.std.specs.declared.option.Option.{Option};
 ghost use Rattle.term_core.specs.declared.TheConstants.{MAX_ROOM};
 ghost use Rattle.prim_core.specs.Signature.{Signature};
 ghost use Rattle.term_changes.specs.Slots.{Store, contents, slot_of, HaveDistinctLabels};
-ghost use Rattle.term_changes.specs.Entries.{Entry, HasPlace, slot_text, after, FitsForward};
+ghost use Rattle.term_changes.specs.Compact.{IsCompact};
+ghost use Rattle.term_changes.specs.Entries.{Entry, HasPlace, slot_text, before, after, FitsForward};
 ghost use Rattle.term_changes.specs.PatchLaws.{patch_entries};
 ghost use Rattle.session_history.specs.History.{empty_within, step_back, step_forward, undone, redone};
 ghost use Rattle.session_history.specs.Acts.{begin, abandon};
 ghost use Rattle.session_modules.specs.Modules.{Checks, changed_text};
 ghost use Rattle.session_modules.specs.Kept.{IsCurrent, IsKept};
-ghost use Rattle.session_history.specs.Unfolded.{unfolded, past_contents, later_contents, AllCompact};
+ghost use Rattle.session_history.specs.Unfolded.{unfolded, past_contents, later_contents, last_step, AllCompact};
+ghost use Rattle.session_history.specs.Differences.{base_of};
 ghost use Rattle.session_history.specs.inside.Adding.{AddsStep};
+ghost use Rattle.session_history.specs.inside.Told.{LeadsToBase};
 ghost use Rattle.session_history.specs.Moving.{KeepsHistory, Changes, Puts, Moves, Leads, Commits};
 
 use crate::finding::{find_text, find_tree};
@@ -130,12 +133,51 @@ impl Timeline {
     /// Whether the last of the steps to undo has no changes. It is false where there is no such
     /// step, and in an open group.
     pub fn last_is_empty(&self) -> bool
-        ensures { result ≡ true → slice_get self.now.logs (self.now.position - 1) ≡ Some [] }
+        ensures { result ≡ true → (0 < self.now.position) × (self.now.group ≡ None)
+            × (slice_get self.now.logs (self.now.position - 1) ≡ Some []) }
     {
         if self.position == 0 || self.in_group() {
             return false;
         }
         self.logs[self.position - 1].is_empty()
+    }
+
+    // The last of the steps to undo. Outside a group it leads back to what `diff` begins with.
+    pub(crate) fn newest(&self) -> Option<&Step>
+        ensures is { option_copied result ≡ last_step self.now }
+        ensures base { self.now.group ≡ None → IfSome result (λ step. LeadsToBase step.now self.now) }
+        ensures compact { IfSome result (λ step. IsCompact step.now) }
+        ensures none { self.now.group ≡ None → IfNone result ((ps : List Signature)
+            → base_of (unfolded ps self.now) ≡ Err Refusal.NoUndo) }
+    {
+        if self.position == 0 {
+            return None;
+        }
+        Some(&self.logs[self.position - 1])
+    }
+
+    // The changes of the open group, if one is open. They lead back to what `diff` begins with.
+    pub(crate) fn group_log(&self) -> Option<&Log>
+        ensures is { option_copied result ≡ option_map (λ g. self.now.current) self.now.group }
+        ensures base { IfSome result (λ log. LeadsToBase log.now self.now) }
+    {
+        match self.group {
+            Some(_) => Some(&self.current),
+            None => None,
+        }
+    }
+
+    /// Leaves changes at disjoint places in the open group, which lead back to the same contents. It
+    /// takes no memory.
+    pub fn compact_group(&mut self)
+        ensures same { KeepsHistory self.old self.new }
+        ensures store { self.new.store ≡ self.old.store }
+        ensures group { self.new.group ≡ self.old.group }
+        ensures steps { (self.new.logs ≡ self.old.logs) × (self.new.position ≡ self.old.position) }
+        ensures before { before self.new.current self.new.store ≡ before self.old.current self.old.store }
+        ensures compact { IsCompact self.new.current }
+    {
+        self.current.compact();
     }
 
     /// Whether a group is open.

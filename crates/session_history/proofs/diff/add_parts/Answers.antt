@@ -1,0 +1,58 @@
+use Rattle.std.proofs.Common.{◌≡◌, true, false, map, refl, sym, ap, subst, ◌∙◌, option_copied}
+use Rattle.std.proofs.lemmas.Result.{on_ok_weaker}
+use Rattle.term_paths.specs.Paths.{at}
+use Rattle.term_changes.specs.Change.{changed}
+use Rattle.session_history.specs.Differences.{differences, difference_line}
+use Rattle.session_history.specs.inside.Lined.{AddsLines}
+use Rattle.session_history.proofs.AddedLemmas.{adds_equal}
+use Rattle.session_history.proofs.EntryTold.{no_slot_told, no_tree_told, no_part_told, other_told, patch_told}
+use Rattle.session_history.proofs.NamedTold.{named_slot, not_mapped}
+use Rattle.session_history.proofs.diff.add_parts.Goals as goal
+
+pub returns-in_default-clause-ok : goal.returns-in_default-clause-ok
+returns-in_default-clause-ok c =
+    let s = c.args.store.now in
+    let p = c.args.parts.now in
+    adds_equal _ c.args.lines.now
+    (no_slot_told (option_copied c.args.name) s c.names_are_distinct.ensures.trees c.names_are_distinct.ensures.modules p.patch p.slot p.path.items (not_mapped _ _ c.in_default.ensures.label))
+
+pub returns-then-not-is_asked-clause-ok : goal.returns-then-not-is_asked-clause-ok
+returns-then-not-is_asked-clause-ok c =
+    let s = c.args.store.now in
+    let p = c.args.parts.now in
+    adds_equal _ c.args.lines.now
+    (other_told (option_copied c.args.name) s c.names_are_distinct.ensures.trees c.names_are_distinct.ensures.modules p.patch p.slot p.path.items c.in-Some.label.now
+    (named_slot s.trees p.slot c.in-Some.label.now c.names_are_distinct.ensures.trees c.in-Some.ensures.label)
+    (λ h. let never : false ≡ true = c.if-not-is_asked.ensures.1 h in cc))
+
+pub returns-in_default-tree-clause-ok : goal.returns-in_default-tree-clause-ok
+returns-in_default-tree-clause-ok c =
+    let s = c.args.store.now in
+    let p = c.args.parts.now in
+    adds_equal _ c.args.lines.now
+    (no_tree_told (option_copied c.args.name) s c.names_are_distinct.ensures.trees c.names_are_distinct.ensures.modules p.patch p.slot p.path.items (sym c.in_default-tree.ensures))
+
+pub returns-in_default-at_parts-clause-ok : goal.returns-in_default-at_parts-clause-ok
+returns-in_default-at_parts-clause-ok c =
+    let s = c.args.store.now in
+    let p = c.args.parts.now in
+    let t = c.in-Some-tree.tree.now in
+    adds_equal _ c.args.lines.now
+    (no_part_told (option_copied c.args.name) s c.names_are_distinct.ensures.trees c.names_are_distinct.ensures.modules p.patch p.slot p.path.items t (sym c.in-Some-tree.ensures)
+    (ap (at t) (sym c.deref.ensures.value) ∙ sym c.in_default-at_parts.ensures))
+
+pub returns-clause-ok : goal.returns-clause-ok
+returns-clause-ok c =
+    let s = c.args.store.now in
+    let p = c.args.parts.now in
+    let n = c.in-Some.label.now in
+    let t = c.in-Some-tree.tree.now in
+    let w = c.in-Some-at_parts.part.now in
+    let here = c.in_ok-path.ensures.items ∙ c.deref-2.ensures.value in
+    let told =
+    patch_told (option_copied c.args.name) s c.names_are_distinct.ensures.trees c.names_are_distinct.ensures.modules p.patch p.slot p.path.items n
+    (named_slot s.trees p.slot n c.names_are_distinct.ensures.trees c.in-Some.ensures.label) t w (sym c.in-Some-tree.ensures)
+    (ap (at t) (sym c.deref.ensures.value) ∙ sym c.in-Some-at_parts.ensures) (c.if-not-is_asked.ensures.0 refl) in
+    on_ok_weaker c.add_patch.result
+    (subst (λ l. AddsLines l c.args.lines.now c.add_patch.new.lines)
+    ((λ k. map (difference_line (c.bytes.ensures.value k)) (differences (here k) (changed p.patch w) w)) ∙ sym told)) c.add_patch.ensures.ok

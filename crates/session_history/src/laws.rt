@@ -1,0 +1,11 @@
+//! Laws of what a step changed. Each is the contract of a function that does nothing.
+
+ghost use Rattle.session_history.specs.DifferenceLaws.{DifferencesLeadBack, EqualTreesDontDiffer, DifferencesAreInOrder};
+
+/// What was there, put back at the places where a tree differs from the one before, gives that one;
+/// equal trees don't differ; and the places are in order, none within that of a subterm.
+pub fn differences_lead_back()
+    ensures back { DifferencesLeadBack }
+    ensures equal { EqualTreesDontDiffer }
+    ensures order { DifferencesAreInOrder }
+{}

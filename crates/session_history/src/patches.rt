@@ -1,0 +1,104 @@
+//! What a patch changed in a tree.
+
+ghost use Rattle.std.specs.Prelude.{◌≡◌, ◌≤◌, ◌∷◌, OnOk, map, length, take, drop, vec_capacity};
+ghost use Rattle.term_changes.specs.Change.{changed};
+ghost use Rattle.session_history.specs.Differences.{differences, difference_line};
+ghost use Rattle.session_history.specs.inside.Lined.{AddsLines};
+ghost use Rattle.session_history.specs.inside.ReadPatches.{kids_of, change_of, differences_of};
+
+use crate::differences::add_differences;
+use crate::lines::Lines;
+use term_changes::{Next, Patch, Reader};
+use term_core::{NoMemory, Term};
+
+/// Adds a line for each place where a subterm differs from the one from before the patch, which has
+/// what was there. The subterm is at the path.
+pub(crate) fn add_patch(
+    name: &[u8],
+    path: &mut Vec<usize>,
+    patch: &Patch,
+    tree: &Term,
+    lines: &mut Lines,
+) -> Result<(), NoMemory>
+    ensures ok { OnOk result (AddsLines (map (difference_line name.now) (differences path.old.items (changed patch.now tree.now) tree.now)) lines.old lines.new) }
+    ensures room { vec_capacity lines.old.text ≤ vec_capacity lines.new.text }
+{
+    let mut reader = patch.reader();
+    let Some((_, next)) = reader.next() else {
+        return Ok(());
+    };
+    add_next(name, path, next, &mut reader, tree, lines)
+}
+
+// Adds the lines of what was read, with what is read for it.
+#[cycle(patches)]
+fn add_next(
+    name: &[u8],
+    path: &mut Vec<usize>,
+    next: Next<'_>,
+    reader: &mut Reader<'_>,
+    tree: &Term,
+    lines: &mut Lines,
+) -> Result<(), NoMemory>
+    requires { kids_of next ≤ length reader.old }
+    ensures ok { OnOk result (AddsLines (map (difference_line name.now) (differences path.old.items (changed (change_of next.entry reader.old) tree.now) tree.now)) lines.old lines.new) }
+    ensures reader { OnOk result (reader.new ≡ drop (kids_of next.entry) reader.old) }
+    ensures path { OnOk result (path.new.items ≡ path.old.items) }
+    ensures room { vec_capacity lines.old.text ≤ vec_capacity lines.new.text }
+{
+    match next {
+        Next::Term(old) => add_differences(name, path, old, tree, lines),
+        Next::Node(kids) => add_kids(name, path, kids, reader, tree.children(), lines),
+    }
+}
+
+// Adds the lines of the next places, so many of them, which are below these children.
+#[cycle(patches)]
+fn add_kids(
+    name: &[u8],
+    path: &mut Vec<usize>,
+    kids: usize,
+    reader: &mut Reader<'_>,
+    children: &[Term],
+    lines: &mut Lines,
+) -> Result<(), NoMemory>
+    requires { kids ≤ length reader.old }
+    ensures ok { OnOk result (AddsLines (map (difference_line name.now) (differences_of path.old.items 0 (take kids reader.old) children.now)) lines.old lines.new) }
+    ensures reader { OnOk result (reader.new ≡ drop kids reader.old) }
+    ensures path { OnOk result (path.new.items ≡ path.old.items) }
+    ensures room { vec_capacity lines.old.text ≤ vec_capacity lines.new.text }
+{
+    let mut at = 0;
+    for _k in 0..kids {
+        let Some((skipped, next)) = reader.next() else {
+            unreachable!()
+        };
+        if skipped >= children.len() - at {
+            at = children.len();
+            pass(next, reader);
+            continue;
+        }
+        at += skipped;
+        path.push(at)?;
+        add_next(name, path, next, reader, &children[at], lines)?;
+        let _child = path.pop();
+        at += 1;
+    }
+    Ok(())
+}
+
+// Passes over what was read, with what is read for it: its place isn't there.
+fn pass(next: Next<'_>, reader: &mut Reader<'_>)
+    requires { kids_of next ≤ length reader.old }
+    ensures { reader.new ≡ drop (kids_of next.entry) reader.old }
+{
+    let Next::Node(kids) = next else {
+        return;
+    };
+    for _k in 0..kids {
+        let Some((_, next)) = reader.next() else {
+            unreachable!()
+        };
+        pass(next, reader);
+    }
+}
