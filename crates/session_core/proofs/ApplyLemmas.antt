@@ -9,6 +9,7 @@ use Rattle.strategy_run.specs.Applies.{applied_in}
 use Rattle.term_core.specs.Tree.{Tree}
 use Rattle.term_changes.specs.Contents.{Contents, with_tree}
 use Rattle.term_changes.specs.Slots.{contents}
+use Rattle.term_changes.specs.Entries.{Entry, after}
 use Rattle.term_changes.proofs.ContentsLemmas.{tree_put}
 use Rattle.session_history.specs.Applying.{Meaning, world_in, given_by}
 use Rattle.session_history.specs.inside.Giving.{GivesIn}
@@ -20,8 +21,9 @@ use Rattle.session_modules.specs.declared.refusal.Refusal.{Refusal}
 use Rattle.session_modules.specs.declared.refusal.Refusal.TheVariants.{Memory}
 use Rattle.session_history.proofs.StepLemmas.{passed, stopped, accepts, refuses}
 use Rattle.session_history.proofs.ActLemmas.{the_place}
-use Rattle.session_core.specs.inside.Foreseen.{IsRefusedRun}
+use Rattle.session_core.specs.inside.Foreseen.{PlansTo, PlansNothing}
 use Rattle.session_core.specs.inside.Resolved.{ResolvesTo, IsUnresolved}
+use Rattle.session_core.proofs.PlanLemmas.{foreseen_gives}
 use Rattle.session_core.proofs.ResolveLemmas.{unresolved_before, resolved_then}
 
 pub same_program : (p q : Program) → Some p ≡ Some q → p ≡ q
@@ -37,7 +39,7 @@ module _ (meaning : Meaning) (ps : List Signature) (t : Logged) (name path text 
   abbrev Comes : ActResult → Type 0
   Comes = ComesTo act now
 
-  pub apply_unresolved : (refusal : Refusal) → (refusal ≡ Memory) ⊎ IsUnresolved name path text now refusal → Performs {X = Unit {0}} act now now (Err refusal)
+  apply_unresolved : (refusal : Refusal) → (refusal ≡ Memory) ⊎ IsUnresolved name path text now refusal → Performs {X = Unit {0}} act now now (Err refusal)
   apply_unresolved refusal (inl memory) = refuses act now now refusal (inl memory) refl
   apply_unresolved refusal (inr before) = refuses act now now refusal (inr (unresolved_before ps t name path text (AppliesAt meaning name path steps now) refusal before)) refl
 
@@ -71,9 +73,16 @@ module _ (meaning : Meaning) (ps : List Signature) (t : Logged) (name path text 
         (passed (given_by ending) (λ tree. ChangesTo (with_tree (contents t.store) name tree) now) gives.tree (Ok (unfolded ps n)) (sym (ap given_by in_slot) ∙ gives.given)
         (ap Ok (done ∙ ap (λ (c : Contents). changed c now) then)))
 
-    -- what a change by the outcome says
-    pub apply_performs : (result : Result (Unit {0}) Refusal) (n : Logged) → OnOk result (GivesIn Ends i t.store n.store) → OnOk result (Changes t n)
-        → IfErr result (IsRefusedRun Ends) → OnErr result (KeepsHistory t n) → Performs act now (unfolded ps n) result
-    apply_performs (Ok tt) n gives done refused same = accepts act now (unfolded ps n) tt (apply_done n gives (done.made ps))
-    apply_performs (Err refusal) n gives done (inl memory) same = refuses act now (unfolded ps n) refusal (inl memory) (same.same ps)
-    apply_performs (Err refusal) n gives done (inr none) same = refuses act now (unfolded ps n) refusal (inr (apply_fails refusal none)) (same.same ps)
+  -- what it means that nothing is planned, and that what is planned was made
+  pub apply_refused : (refusal : Refusal) → (refusal ≡ Memory) ⊎ (IsUnresolved name path text now refusal ⊎ PlansNothing meaning ps t name path text steps refusal)
+      → Performs {X = Unit {0}} act now now (Err refusal)
+  apply_refused refusal (inl memory) = apply_unresolved refusal (inl memory)
+  apply_refused refusal (inr (inl before)) = apply_unresolved refusal (inr before)
+  apply_refused refusal (inr (inr p)) = refuses act now now refusal (inr (apply_fails (Some p.program) p.slot p.whole p.resolves p.program refl refusal p.ends)) refl
+
+  pub apply_performs : (i : ℕ) (entries : List Entry) (taken : ℕ) (p : PlansTo meaning ps t name path text steps i entries taken) (result : Result (Unit {0}) Refusal) (n : Logged)
+      → OnOk result (n.store ≡ after entries t.store) → OnOk result (Changes t n) → IfErr result (λ refusal. refusal ≡ Memory) → OnErr result (KeepsHistory t n) → Performs act now (unfolded ps n) result
+  apply_performs i entries taken p (Ok tt) n made done memory same =
+      let gives = foreseen_gives (world_in meaning p.program ps t.limits.max_terms) t.store i path p.whole steps entries taken p.foresees n.store made in
+      accepts act now (unfolded ps n) tt (apply_done (Some p.program) i p.whole p.resolves p.program refl n gives (done.made ps))
+  apply_performs i entries taken p (Err refusal) n made done memory same = refuses act now (unfolded ps n) refusal (inl memory) (same.same ps)

@@ -12,7 +12,7 @@ use Rattle.term_paths.proofs.LawLemmas.{set_is_there}
 use Rattle.term_paths.proofs.ApartLemmas.{apart_is_left}
 use Rattle.term_changes.specs.Putting.{ApartFromAll, entries_at}
 use Rattle.term_changes.proofs.OrderLemmas.{left_apart}
-use Rattle.term_changes.specs.Entries.{subterm_in}
+use Rattle.term_changes.specs.Entries.{Entry, subterm_in}
 use Rattle.strategy_syntax.specs.declared.resolved.Resolved.{Resolved}
 use Rattle.strategy_check.specs.Programs.{Program}
 use Rattle.strategy_meaning.specs.Answer.{Answer, done, failed, stopped}
@@ -31,7 +31,7 @@ use Rattle.session_modules.specs.declared.refusal.Refusal.TheVariants.{Memory, F
 use Rattle.session_history.proofs.ActLemmas.{place_held, part_there, the_place}
 use Rattle.session_core.specs.Previewing.{IsEntryFor, AreThere, ShowsPreview, AnswersPreview}
 use Rattle.session_core.specs.declared.preview.Preview.{Preview}
-use Rattle.session_core.specs.inside.Foreseen.{Foresees, IsRefusedRun}
+use Rattle.session_core.specs.inside.Foreseen.{Foresees, PlansTo, PlansNothing}
 use Rattle.session_core.specs.inside.Resolved.{ResolvesTo, IsUnresolved}
 use Rattle.session_core.proofs.ApplyLemmas.{same_program}
 use Rattle.session_core.proofs.PlanLemmas.{ends_there}
@@ -112,7 +112,7 @@ module _ (meaning : Meaning) (ps : List Signature) (t : Logged) (name path text 
   abbrev now : History
   now = unfolded ps t
 
-  pub preview_unresolved : (refusal : Refusal) → (refusal ≡ Memory) ⊎ IsUnresolved name path text now refusal
+  preview_unresolved : (refusal : Refusal) → (refusal ≡ Memory) ⊎ IsUnresolved name path text now refusal
       → AnswersPreview meaning name path steps text now (Err refusal)
   preview_unresolved refusal (inl memory) = record { ok = tt; refused = inl memory }
   preview_unresolved refusal (inr before) = record { ok = tt; refused = inr (unresolved_before ps t name path text (ForeseesAt meaning path steps now) refusal before) }
@@ -164,15 +164,22 @@ module _ (meaning : Meaning) (ps : List Signature) (t : Logged) (name path text 
     refuses_run tree part (failed left) refusal e = let same : Fails ≡ refusal = cc in ap Err (sym same)
     refuses_run tree part (stopped why) refusal e = let same : stopped_as why ≡ refusal = cc in ap Err (sym same)
 
-    preview_refused : (refusal : Refusal) → IsRefusedRun (applied_in (world_in meaning lent ps t.limits.max_terms) t.store.trees i path whole steps) refusal → (refusal ≡ Memory) ⊎ Previews meaning name path steps text now (Err refusal)
-    preview_refused refusal (inl memory) = inl memory
-    preview_refused refusal (inr none) =
+    preview_fails : (refusal : Refusal) → given_by (applied_in (world_in meaning lent ps t.limits.max_terms) t.store.trees i path whole steps) ≡ Err refusal → Previews meaning name path steps text now (Err refusal)
+    preview_fails refusal none =
         let there : subterm_in t.store.trees i path ≡ Some here.part = ap (option_and_then (λ y. at y path)) r.there.is.held ∙ part_there t name path i r.there in
         let ends = ends_there (world_in meaning lent ps t.limits.max_terms) t.store i path whole steps here.part _ there refl in
-        inr (at_part here.part there (Err refusal) (refuses_run ends.0 here.part (run_on here.part) refusal (sym (ap given_by ends.1) ∙ none)))
+        at_part here.part there (Err refusal) (refuses_run ends.0 here.part (run_on here.part) refusal (sym (ap given_by ends.1) ∙ none))
 
-    -- what the call answers
-    pub preview_answers : (result : Result Preview Refusal) → IfOk result (λ preview. Foresees (world_in meaning lent ps t.limits.max_terms) t.store i path whole steps preview.plan preview.steps)
-        → IfErr result (IsRefusedRun (applied_in (world_in meaning lent ps t.limits.max_terms) t.store.trees i path whole steps)) → AnswersPreview meaning name path steps text now result
-    preview_answers (Ok preview) f refused = record { ok = shows_preview preview f; refused = tt }
-    preview_answers (Err refusal) f refused = record { ok = tt; refused = preview_refused refusal refused }
+  -- what the call answers, where nothing is planned, and what it shows
+  pub preview_refused : (refusal : Refusal) → (refusal ≡ Memory) ⊎ (IsUnresolved name path text now refusal ⊎ PlansNothing meaning ps t name path text steps refusal)
+      → AnswersPreview meaning name path steps text now (Err refusal)
+  preview_refused refusal (inl memory) = preview_unresolved refusal (inl memory)
+  preview_refused refusal (inr (inl before)) = preview_unresolved refusal (inr before)
+  preview_refused refusal (inr (inr p)) = record { ok = tt; refused = inr (preview_fails (Some p.program) p.slot p.whole p.resolves p.program refl refusal p.ends) }
+
+  pub preview_shows : (i : ℕ) (entries : List Entry) (taken : ℕ) (p : PlansTo meaning ps t name path text steps i entries taken) (preview : Preview) → preview.plan ≡ entries → preview.steps ≡ taken
+      → AnswersPreview meaning name path steps text now (Ok preview)
+  preview_shows i entries taken p preview plan count =
+      let f = subst (λ n. Foresees (world_in meaning p.program ps t.limits.max_terms) t.store i path p.whole steps preview.plan n) (sym count)
+      (subst (λ es. Foresees (world_in meaning p.program ps t.limits.max_terms) t.store i path p.whole steps es taken) (sym plan) p.foresees) in
+      record { ok = shows_preview (Some p.program) i p.whole p.resolves p.program refl preview f; refused = tt }

@@ -1,17 +1,19 @@
 -- What an act leaves of a session, and its answer.
-use Rattle.std.proofs.Common.{◌≡◌, ℕ, Bool, false, List, Result, Ok, Err, sym, ap, subst}
+use Rattle.std.proofs.Common.{◌≡◌, ◌⊎◌, ℕ, Bool, false, List, Result, Ok, Err, IfErr, inl, inr, sym, ap, subst, ◌∙◌}
 use Rattle.std.specs.Prelude.{IsErrAnd}
 use Rattle.std.specs.Bool.{OnFalse}
 use Rattle.prim_core.specs.Signature.{Signature}
 use Rattle.term_changes.specs.Slots.{Slots, named, contents}
 use Rattle.session_history.specs.History.{History, HasSoundContents}
 use Rattle.session_history.specs.Acts.{Act, ComesTo, Performs, PerformsSurely}
+use Rattle.session_history.specs.Differences.{base_of}
 use Rattle.session_modules.specs.Modules.{Texts}
 use Rattle.session_modules.specs.Kept.{IsKept}
 use Rattle.session_history.specs.Moving.{PerformsOn, PerformsBy, PerformsSurelyOn}
 use Rattle.session_history.specs.Unfolded.{Logged, unfolded}
 use Rattle.session_modules.specs.declared.cache.ModuleCache.{ModuleCache}
 use Rattle.session_modules.specs.declared.refusal.Refusal.{Refusal}
+use Rattle.session_modules.specs.declared.refusal.Refusal.TheVariants.{Memory}
 use Rattle.session_history.proofs.SoundLemmas.{StandsOn, LeavesModules, step_sound, act_sound, act_leaves}
 use Rattle.session_history.proofs.ActLemmas.{kept_still}
 use Rattle.session_core.specs.inside.Held.{IsSession}
@@ -56,6 +58,14 @@ module _ {X : Type 0} (act : Act) (ps : List Signature) (old new : Logged) (k : 
     kept = subst (λ (ms : Slots (List ℕ)). IsKept ps (named ms) k) (sym (subst (λ b. OnFalse b (new.store.modules ≡ old.store.modules)) none same)) s.kept;
   }
 
+-- what changes nothing
+module _ (ps : List Signature) (old new : Logged) (k : ModuleCache) (same : unfolded ps new ≡ unfolded ps old) where
+  pub keeps_same : IsSession ps old k → IsSession ps new k
+  keeps_same s = record {
+    sound = subst HasSoundContents (sym same) s.sound;
+    kept = kept_still ps old new k (ap (λ (h : History). h.now.modules) same) s.kept;
+  }
+
 -- ---- answers, where the session is this history
 
 module _ {X : Type 0} (act : Act) (ps : List Signature) (old new : Logged) (h : History) (is : unfolded ps old ≡ h) where
@@ -73,3 +83,10 @@ module _ {X : Type 0} (act : Act) (ps : List Signature) (old new : Logged) (h : 
   performs_passed (Ok y) refusal same p = absurd same
   performs_passed (Err e) refusal same p =
       let first = performs_surely (Err refusal) p in record { ok = tt; refused = subst (λ (e : Refusal). ComesTo act h (Err e)) (sym same) first.refused; err = first.err }
+
+-- why the last step isn't told
+pub untold : {X : Type 0} (r : Result X Refusal) (ps : List Signature) (t : Logged) (h : History) → unfolded ps t ≡ h
+    → IfErr r (λ e. (e ≡ Memory) ⊎ ((ps : List Signature) → base_of (unfolded ps t) ≡ Err e)) → IfErr r (λ e. (e ≡ Memory) ⊎ (base_of h ≡ Err e))
+untold (Ok x) ps t h is p = tt
+untold (Err e) ps t h is (inl memory) = inl memory
+untold (Err e) ps t h is (inr none) = inr (ap base_of (sym is) ∙ none ps)

@@ -1,59 +1,57 @@
-//! What a strategy would change in the tree of a slot, which is left unchanged.
+//! What a strategy would change in a tree of a session, which is left unchanged.
 
-ghost use Rattle.std.specs.Prelude.{◌≡◌, IfOk, IfErr, option_copied};
-ghost use Rattle.term_changes.specs.Entries.{subterm_in};
+ghost use Rattle.std.specs.Prelude.{◌≡◌, ◌⊎◌, IfOk, IfErr};
+ghost use Rattle.term_changes.specs.Slots.{contents};
 ghost use Rattle.term_changes.specs.PatchLaws.{patch_entries};
-ghost use Rattle.strategy_run.specs.Applies.{applied_in};
-ghost use Rattle.session_history.specs.Applying.{world_in};
-ghost use Rattle.session_core.specs.inside.Foreseen.{IsLowIn, Foresees, IsRefusedRun};
-ghost use Rattle.session_core.specs.inside.Resolved.{replaced_of};
+ghost use Rattle.session_history.specs.History.{AreFormed};
+ghost use Rattle.session_modules.specs.Kept.{IsKept};
+ghost use Rattle.session_history.specs.Unfolded.{unfolded};
+ghost use Rattle.session_core.specs.inside.Foreseen.{PlansTo, PlansNothing};
+ghost use Rattle.session_core.specs.inside.Resolved.{replaced_of, IsUnresolved};
 
+use crate::resolving::resolve_at;
 use prim_core::{Meaning, Primitives};
-use session_history::{Refusal, Timeline};
-use strategy_check::Program;
-use strategy_run::{Ended, Planned, plan_patch};
-use strategy_syntax::Resolved;
-use term_core::{NoMemory, Term};
-use term_paths::{Path, at};
+use session_history::{ModuleCache, Refusal, Timeline};
+use strategy_run::{Ended, Host, Planned, plan_patch};
+use term_core::{Label, NoMemory};
+use term_paths::Path;
 
-/// What the strategy replaces in the tree of a slot, as a patch of the subterm at the path.
-pub(crate) fn plan_in_slot<M: Meaning>(
+/// The slot of the name's tree, and what the strategy given as text replaces in the subterm at the
+/// path, within this budget. The modules are checked unless they are kept, and are kept then.
+pub(crate) fn plan_at<M: Meaning>(
     timeline: &Timeline,
-    program: &Program,
     primitives: &Primitives<M>,
-    slot: usize,
+    cache: &mut ModuleCache,
+    name: &Label,
     path: &Path,
-    strategy: &Resolved,
     budget: u32,
-) -> Result<Planned, Refusal>
-    requires low { IsLowIn timeline.now.store slot path.now }
-    ensures ok { IfOk result (λ planned. Foresees (world_in M.meaning program.now primitives.now timeline.now.limits.max_terms)
-        timeline.now.store slot path.now strategy.now budget (patch_entries slot path.now planned.patch) planned.taken) }
-    ensures refused { IfErr result (IsRefusedRun (applied_in (world_in M.meaning program.now primitives.now timeline.now.limits.max_terms)
-        timeline.now.store.trees slot path.now strategy.now budget)) }
+    text: &[u8],
+) -> Result<(usize, Planned), Refusal>
+    requires formed { AreFormed (contents timeline.now.store) }
+    requires kept { IsKept primitives.now (contents timeline.now.store).modules cache.old }
+    ensures ok { IfOk result (λ found. PlansTo M.meaning primitives.now timeline.now name.now path.now text.now budget
+        found.0 (patch_entries found.0 path.now found.1.patch) found.1.taken) }
+    ensures refused { IfErr result (λ refusal. (refusal ≡ Refusal.Memory)
+        ⊎ (IsUnresolved name.now path.now text.now (unfolded primitives.now timeline.now) refusal
+        ⊎ PlansNothing M.meaning primitives.now timeline.now name.now path.now text.now budget refusal)) }
+    ensures kept { IsKept primitives.now (contents timeline.now.store).modules cache.new }
 {
-    let Some(part) = part_in_slot(timeline, slot, path) else {
-        return Err(Refusal::Fails);
+    let ((slot, part), whole) = match resolve_at(timeline, primitives, cache, name, path, text) {
+        Ok(found) => found,
+        Err(refusal) => return Err(refusal),
     };
-    let ended = plan_patch(
-        timeline.allocator(),
-        program,
+    let host = Host {
+        definitions: cache.program().definitions(),
         primitives,
-        part,
-        path.len() as u64,
-        timeline.limits().max_terms,
-        strategy,
-        budget as u64,
-    );
-    replaced(ended)
-}
-
-// The subterm at the path of the slot's tree, if there is one.
-fn part_in_slot<'a>(timeline: &'a Timeline, slot: usize, path: &Path) -> Option<&'a Term>
-    ensures { option_copied result ≡ subterm_in timeline.now.store.trees slot path.now }
-{
-    let tree = timeline.store().tree(slot)?;
-    at(tree, path)
+        room: timeline.limits().max_terms,
+    };
+    let (alloc, level) = (timeline.allocator(), path.len() as u64);
+    let ended = plan_patch(alloc, &host, part, level, &whole, budget as u64);
+    drop(whole);
+    match replaced(ended) {
+        Ok(planned) => Ok((slot, planned)),
+        Err(refusal) => Err(refusal),
+    }
 }
 
 // What is replaced, or the refusal.

@@ -1,23 +1,18 @@
 //! What applying a strategy would replace.
 
-ghost use Rattle.std.specs.Prelude.{◌≡◌, length, option_map, IfOk, IfErr};
+ghost use Rattle.std.specs.Prelude.{◌≡◌, length, option_map};
 ghost use Rattle.term_changes.specs.Slots.{contents};
-ghost use Rattle.strategy_run.specs.Applies.{applied_in};
-ghost use Rattle.session_history.specs.Applying.{world_in};
 ghost use Rattle.session_history.specs.History.{AreFormed};
 ghost use Rattle.session_modules.specs.Kept.{IsKept};
 ghost use Rattle.session_history.specs.Unfolded.{unfolded};
 ghost use Rattle.session_core.specs.Previewing.{AnswersPreview, IsNext};
-ghost use Rattle.session_core.specs.inside.Foreseen.{IsLowIn, Foresees, IsRefusedRun};
 
-use crate::planning::plan_in_slot;
-use crate::resolving::resolve_at;
+use crate::planning::plan_at;
 use change_log::Plan;
 use prim_core::{Meaning, Primitives};
 use session_history::{ModuleCache, Refusal, Timeline};
 use std::marker::Model;
-use strategy_check::Program;
-use strategy_syntax::Resolved;
+use strategy_run::Planned;
 use term_changes::{Kept, Replaced};
 use term_core::{Label, Term};
 use term_paths::Path;
@@ -107,38 +102,13 @@ pub(crate) fn preview_strategy<M: Meaning>(
     ensures answers { AnswersPreview M.meaning name.now path.now budget text.now (unfolded primitives.now timeline.now) result }
     ensures kept { IsKept primitives.now (contents timeline.now.store).modules cache.new }
 {
-    let (slot, whole) = match resolve_at(timeline, primitives, cache, name, path, text) {
+    let (slot, planned) = match plan_at(timeline, primitives, cache, name, path, budget, text) {
         Ok(found) => found,
         Err(refusal) => return Err(refusal),
     };
-    let program = cache.program();
-    let outcome = preview_in_slot(timeline, program, primitives, slot, path, &whole, budget);
-    drop(whole);
-    outcome
-}
-
-// What applying a resolved strategy in the tree of a slot would replace.
-fn preview_in_slot<M: Meaning>(
-    timeline: &Timeline,
-    program: &Program,
-    primitives: &Primitives<M>,
-    slot: usize,
-    path: &Path,
-    strategy: &Resolved,
-    budget: u32,
-) -> Result<Preview, Refusal>
-    requires low { IsLowIn timeline.now.store slot path.now }
-    ensures ok { IfOk result (λ preview. Foresees (world_in M.meaning program.now primitives.now timeline.now.limits.max_terms)
-        timeline.now.store slot path.now strategy.now budget preview.plan preview.steps) }
-    ensures refused { IfErr result (IsRefusedRun (applied_in (world_in M.meaning program.now primitives.now timeline.now.limits.max_terms)
-        timeline.now.store.trees slot path.now strategy.now budget)) }
-{
-    let planned = plan_in_slot(timeline, program, primitives, slot, path, strategy, budget)?;
-    let plan = planned
-        .patch
-        .into_plan(timeline.allocator(), slot, path.parts())?;
+    let Planned { patch, taken } = planned;
     Ok(Preview {
-        plan,
-        steps: planned.taken,
+        plan: patch.into_plan(timeline.allocator(), slot, path.parts())?,
+        steps: taken,
     })
 }

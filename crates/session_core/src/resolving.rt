@@ -1,7 +1,8 @@
 //! Strategies given as text, for a place in a tree of a session.
 
-ghost use Rattle.std.specs.Prelude.{◌≡◌, ◌<◌, ◌≤◌, ◌⊎◌, Ok, Err, IfOk, IfErr};
+ghost use Rattle.std.specs.Prelude.{◌≡◌, ◌<◌, ◌≤◌, ◌⊎◌, Some, Ok, Err, IfOk, IfErr};
 ghost use Rattle.term_changes.specs.Slots.{contents};
+ghost use Rattle.term_changes.specs.Entries.{subterm_in};
 ghost use Rattle.session_history.specs.Applying.{ReadsAsStrategy, resolved_in};
 ghost use Rattle.session_history.specs.History.{AreFormed};
 ghost use Rattle.session_modules.specs.Kept.{IsKept, program_in};
@@ -14,32 +15,33 @@ use std::alloc::Global;
 use strategy_check::{Program, resolve};
 use strategy_parse::parse_strategy;
 use strategy_syntax::{Resolved, Strategy};
-use term_core::Label;
+use term_core::{Label, Term};
 use term_paths::Path;
 
-/// The slot of the name's tree, which has a subterm at the path, and the strategy that the text is
-/// resolved to. The modules are checked unless they are kept, and are kept then.
+/// The slot of the name's tree, its subterm at the path, and the strategy that the text is resolved
+/// to. The modules are checked unless they are kept, and are kept then.
 // What was read is passed to `drop` instead of being left to the ends of scopes: there its drop
 // would be proved anew on each way out.
-pub(crate) fn resolve_at<M: Meaning>(
-    timeline: &Timeline,
+pub(crate) fn resolve_at<'a, M: Meaning>(
+    timeline: &'a Timeline,
     primitives: &Primitives<M>,
     cache: &mut ModuleCache,
     name: &Label,
     path: &Path,
     text: &[u8],
-) -> Result<(usize, Resolved), Refusal>
+) -> Result<((usize, &'a Term), Resolved), Refusal>
     requires formed { AreFormed (contents timeline.now.store) }
     requires kept { IsKept primitives.now (contents timeline.now.store).modules cache.old }
     ensures ok { IfOk result (λ found. ResolvesTo primitives.now timeline.now name.now path.now text.now
-        (program_in cache.new) found.0 found.1) }
+        (program_in cache.new) found.0.0 found.1) }
+    ensures part { IfOk result (λ found. subterm_in timeline.now.store.trees found.0.0 path.now ≡ Some found.0.1.now) }
     ensures refused { IfErr result (λ refusal. (refusal ≡ Refusal.Memory)
         ⊎ IsUnresolved name.now path.now text.now (unfolded primitives.now timeline.now) refusal) }
     ensures kept { IsKept primitives.now (contents timeline.now.store).modules cache.new }
 {
     let alloc = timeline.allocator();
-    let slot = match timeline.place(name, path) {
-        Ok(slot) => slot,
+    let place = match timeline.place(name, path) {
+        Ok(place) => place,
         Err(refusal) => return Err(refusal),
     };
     let strategy = match read_strategy(alloc, text) {
@@ -53,7 +55,7 @@ pub(crate) fn resolve_at<M: Meaning>(
     let resolved = resolve_strategy(alloc, cache.program(), primitives, &strategy);
     drop(strategy);
     match resolved {
-        Ok(whole) => Ok((slot, whole)),
+        Ok(whole) => Ok((place, whole)),
         Err(refusal) => Err(refusal),
     }
 }

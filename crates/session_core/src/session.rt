@@ -1,11 +1,12 @@
 //! Sessions: contents that change in steps, which can be undone and redone.
 
-ghost use Rattle.std.specs.Prelude.{◌≡◌, ◌≤◌, ◌++◌, vec_capacity, OnOk, OnErr, IfOk, length, option_copied};
+ghost use Rattle.std.specs.Prelude.{◌≡◌, ◌⊎◌, ◌≤◌, ◌++◌, vec_capacity, OnOk, OnErr, IfOk, IfErr, Err, length, option_copied};
 ghost use Rattle.std.specs.FinMap as finmap;
 ghost use Rattle.term_core.specs.declared.TheConstants.{MAX_ROOM};
 ghost use Rattle.session_history.specs.History.{empty_history, empty_within, HasSoundContents};
 ghost use Rattle.session_history.specs.Acts.{Performs, PerformsSurely, set_tree, copy_tree, drop_tree, put, annotate, set_module, unload, apply, undo, redo, begin, commit, abandon};
 ghost use Rattle.session_core.specs.Previewing.{AnswersPreview};
+ghost use Rattle.session_history.specs.Differences.{base_of, TellsChanges};
 ghost use Rattle.session_history.specs.Dump.{dumped, AreNamedTerms};
 ghost use Rattle.session_history.specs.Unfolded.{unfolded};
 
@@ -243,8 +244,8 @@ impl<M: Meaning> Session<M> {
 
     /// Replaces the subterm at the path of the name's tree by the result of a strategy, given as
     /// text, within a budget of steps. That is a step, as with `set_tree`, even if the term stays
-    /// the same. The strategy may call what the current modules define;
-    /// their program is cached until they change.
+    /// the same. The strategy may call what the current modules define; their program is cached
+    /// until they change.
     ///
     /// For example, `all(!1)` at the path `/` of `f(a,b)` makes it `f(1,1)`.
     ///
@@ -303,6 +304,24 @@ impl<M: Meaning> Session<M> {
             budget,
             text,
         )
+    }
+
+    /// Appends what the last step changed, in a group what that changed so far: `changes` and the
+    /// number of lines that follow; a line for each outermost place where a tree differs from the
+    /// one from before, with what was there and what is there now; and one for each module that
+    /// changed. Trees come before modules, each in byte order of the names. With a name these are
+    /// the lines of that name. Nothing changes.
+    ///
+    /// For example, `changes 1` and `t/0 a => b` after `put t /0 b` over `f(a)`.
+    ///
+    /// If there is no step, the refusal is `NoUndo`. A refusal may leave any bytes in `out`.
+    pub fn diff(&mut self, name: Option<&Label>, out: &mut Vec<u8>) -> Result<(), Refusal>
+        ensures same { self.new ≡ self.old }
+        ensures ok { OnOk result (TellsChanges (option_copied name.entry) self.old out.old.items out.new.items) }
+        ensures refused { IfErr result (λ refusal. (refusal ≡ Refusal.Memory) ⊎ (base_of self.old ≡ Err refusal)) }
+        ensures room { vec_capacity out.old ≤ vec_capacity out.new }
+    {
+        self.timeline.diff(name, out)
     }
 
     /// Goes `n` steps back: the contents become those from before the last `n` steps; 0 changes

@@ -1,32 +1,36 @@
-use Rattle.std.proofs.Common.{refl}
-use Rattle.session_modules.specs.Kept.{program_in}
+use Rattle.term_changes.specs.PatchLaws.{patch_entries}
+use Rattle.session_history.specs.Applying.{world_in}
 use Rattle.session_history.specs.Acts.{apply}
 use Rattle.session_history.proofs.SoundLemmas.{act_leaves}
 use Rattle.session_history.proofs.ActLemmas.{kept_still}
-use Rattle.session_core.proofs.ResolveLemmas.{is_low, program_there}
-use Rattle.session_core.proofs.ApplyLemmas.{apply_unresolved, apply_performs}
+use Rattle.session_core.proofs.PlanLemmas.{foreseen_fits}
+use Rattle.session_core.proofs.ApplyLemmas.{apply_refused, apply_performs}
 use Rattle.session_core.proofs.applying.apply_strategy.Goals as goal
 
-pub apply_in_slot-outcome-requires : goal.apply_in_slot-outcome-requires
-apply_in_slot-outcome-requires g c = record { low = is_low c.args.timeline.now c.args.name.now c.args.path.now c.in-Ok.found.0 c.in-Ok.ensures.ok.there c.requires.formed c.args.timeline.now.store refl }
+pub exchange-requires : goal.exchange-requires
+exchange-requires g c =
+    let p = c.in-Ok.ensures.ok in
+    record {
+      places =
+          foreseen_fits (world_in g.M.Meaning.meaning p.program c.args.primitives.now c.args.timeline.now.limits.max_terms) c.args.timeline.now.store c.in-Ok.found.0 c.args.path.now p.whole c.args.budget
+          (patch_entries c.in-Ok.found.0 c.args.path.now c.in-Ok.found.1.patch) c.in-Ok.found.1.taken p.foresees;
+    }
 
 pub returns-in-Err-clause-performs : goal.returns-in-Err-clause-performs
 returns-in-Err-clause-performs g c = record {
   is =
-      apply_unresolved g.M.Meaning.meaning c.args.primitives.now c.args.timeline.now c.args.name.now c.args.path.now c.args.text.now c.args.budget c.in-Err.refusal c.in-Err.ensures.refused;
+      apply_refused g.M.Meaning.meaning c.args.primitives.now c.args.timeline.now c.args.name.now c.args.path.now c.args.text.now c.args.budget c.in-Err.refusal c.in-Err.ensures.refused;
 }
 
 pub returns-clause-performs : goal.returns-clause-performs
 returns-clause-performs g c = record {
   is =
-      apply_performs g.M.Meaning.meaning c.args.primitives.now c.args.timeline.now c.args.name.now c.args.path.now c.args.text.now c.args.budget (program_in c.resolve_at.new.cache) c.in-Ok.found.0 c.in-Ok.found.1 c.in-Ok.ensures.ok
-      c.program-program.result.now c.program-program.ensures c.apply_in_slot-outcome.result c.apply_in_slot-outcome.new.timeline c.apply_in_slot-outcome.ensures.made c.apply_in_slot-outcome.ensures.ok c.apply_in_slot-outcome.ensures.refused c.apply_in_slot-outcome.ensures.err;
+      apply_performs g.M.Meaning.meaning c.args.primitives.now c.args.timeline.now c.args.name.now c.args.path.now c.args.text.now c.args.budget c.in-Ok.found.0
+      (patch_entries c.in-Ok.found.0 c.args.path.now c.in-Ok.found.1.patch) c.in-Ok.found.1.taken c.in-Ok.ensures.ok
+      c.exchange.result c.exchange.new.timeline c.exchange.ensures.made c.exchange.ensures.ok c.exchange.ensures.refused c.exchange.ensures.err;
 }
 
 pub returns-clause-kept : goal.returns-clause-kept
 returns-clause-kept g c =
     let p = (returns-clause-performs g c).is in
-    kept_still c.args.primitives.now c.args.timeline.now c.apply_in_slot-outcome.new.timeline _ (act_leaves (apply g.M.Meaning.meaning c.args.name.now c.args.path.now c.args.budget c.args.text.now) c.apply_in_slot-outcome.result _ _ tt p.ok p.err) c.resolve_at.ensures.kept
-
-pub program-program-requires : goal.program-program-requires
-program-program-requires g c = program_there c.resolve_at.new.cache c.in-Ok.ensures.ok.program c.in-Ok.ensures.ok.cache
+    kept_still c.args.primitives.now c.args.timeline.now c.exchange.new.timeline _ (act_leaves (apply g.M.Meaning.meaning c.args.name.now c.args.path.now c.args.budget c.args.text.now) c.exchange.result _ _ tt p.ok p.err) c.plan_at.ensures.kept
