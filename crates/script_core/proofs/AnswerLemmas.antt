@@ -1,5 +1,5 @@
 -- Lemmas on how one command is answered.
-use Rattle.std.proofs.Common.{◌≡◌, ◌≤◌, ◌<◌, ℕ, Bool, false, true, ◌||◌, List, codes, Some, None, Ok, Err, IfErr, OnOk, is_none, Result, ok_or, option_map, ◌⊎◌, inl, inr, refl, sym, ap, ◌∙◌, subst, arith, if◌then◌else◌}
+use Rattle.std.proofs.Common.{◌≡◌, ◌≤◌, ◌<◌, ℕ, Bool, false, true, ◌||◌, List, [], codes, Some, None, Ok, Err, IfErr, OnOk, is_none, Result, ok_or, option_map, ◌⊎◌, inl, inr, refl, sym, ap, ◌∙◌, subst, arith, if◌then◌else◌}
 use Rattle.std.specs.declared.option.Option.{Option}
 use Rattle.std.specs.Prelude.{is_ok}
 use Rattle.std.specs.Cmp.Lexicographic.{same_text}
@@ -12,16 +12,18 @@ use Rattle.aterm_text.specs.Tokens.{is_blank}
 use Rattle.session_history.specs.Applying.{Meaning}
 use Rattle.session_history.specs.History.{HistoryGroup, History, undone, redone}
 use Rattle.session_history.specs.Acts.{Act, ActResult, Passing, Holding, Given, Leaves, Located, ComesTo, Performs, PerformsSurely}
+use Rattle.term_changes.specs.Contents.{Contents}
+use Rattle.session_history.specs.Differences.{base_of, changes_of, diff_text, TellsChanges}
 use Rattle.session_modules.specs.declared.refusal.Refusal.{Refusal}
 use Rattle.session_modules.specs.declared.refusal.Refusal.TheVariants.{Memory, NoUndo, NoRedo, Group, NoGroup}
 use Rattle.script_text.specs.declared.keyword.Keyword.{Keyword}
 use Rattle.script_text.specs.Script.{without_end}
 use Rattle.script_text.specs.Handed.{Handed, text as handed_text, long}
 use Rattle.std.specs.Str.{bytes_eq}
-use Rattle.script_text.specs.Form.{Form, is_without_memory, undo, redo, begin, abandon, checked, form_of, form_with, last_steps, has_word, front_word, after_word, takes_no_memory, takes_no_memory_with}
+use Rattle.script_text.specs.Form.{Form, is_without_memory, diff, undo, redo, begin, abandon, checked, form_of, form_with, last_steps, has_word, front_word, after_word, takes_no_memory, takes_no_memory_with}
 use Rattle.script_text.specs.declared.command.Budgets.{Budgets}
 use Rattle.script_text.specs.CommandView.{form}
-use Rattle.script_text.specs.Replies.{Reply, ReadAs, Told, done, told_of, Replies, budgets_in, ReplyTo, ReplyToText, refused, line}
+use Rattle.script_text.specs.Replies.{Reply, ReadAs, Told, done, shown, told_of, Replies, budgets_in, ReplyTo, ReplyToText, refused, line}
 use Rattle.script_text.specs.Answer.{Answered, ReplyInRun, TellsRefusal, takes_none, is_fault}
 use Rattle.script_text.specs.KeywordView.{form_after, is_without_memory_after}
 use Rattle.script_core.specs.inside.Performing.{Refuses, PerformedRight, ReplyToForm, ToldRight, reading_refusal}
@@ -104,6 +106,18 @@ told_ok Rule none r (Ok x) h g answer p same written =
 told_ok Rule none r (Err refusal) h g answer p same written = rw same (record { ok = tt; refused = p.refused; err = p.err })
 
 pub ruleset by_acts = (acts, acts_surely, told_ok)
+
+-- what the last step changed
+pub told_changes : (meaning : Meaning) (name : Option (List ℕ)) (r : Result (Unit {0}) Refusal) (h g : History) (answer : List ℕ) → g ≡ h
+    → OnOk r (TellsChanges name h [] answer) → IfErr r (λ refusal. (refusal ≡ Memory) ⊎ (base_of h ≡ Err refusal)) → PerformedRight (Replies meaning (diff name) h) false r h g answer
+told_changes meaning name (Ok x) h g answer same told refused =
+    let text : Contents → List ℕ = λ base. diff_text (changes_of name base h.now) in
+    record { ok = (λ k. Ok (told_of (same k) (told.text k))) ∙ ap (shown text h) (sym told.is); refused = tt; err = tt }
+told_changes meaning name (Err refusal) h g answer same told refused = record { ok = tt; refused = by refused; err = same }
+  where
+    by : (refusal ≡ Memory) ⊎ (base_of h ≡ Err refusal) → Refuses (Replies meaning (diff name) h) false refusal
+    by (inl memory) = inl (memory, refl)
+    by (inr e) = inr (sym (ap (shown (λ base. diff_text (changes_of name base h.now)) h) e))
 
 -- by a form that was read, or wasn't
 to_form : (meaning : Meaning) (asked : Option Form) (known : Form) (h : History) → checked asked ≡ Ok known → (reply : Reply) → Replies meaning known h reply → ReplyToForm meaning asked h reply

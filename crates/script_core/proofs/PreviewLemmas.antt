@@ -1,7 +1,8 @@
 -- The text of a preview, by the entries of its plan.
 use Rattle.std.proofs.Common.{◌≡◌, ℕ, List, [], ◌∷◌, ◌++◌, length, Some, refl, sym, ap, subst, ◌∙◌}
 use Rattle.std.proofs.lemmas.Slice.Zip.{AllZip-long}
-use Rattle.std.specs.Prelude.{unwrap_or}
+use Rattle.std.specs.Prelude.{is_some}
+use Rattle.std.specs.Option.{option_map_or}
 use Rattle.std.specs.List.{flat_map, AllZip}
 use Rattle.term_core.specs.Tree.{Tree}
 use Rattle.term_paths.specs.Paths.{at}
@@ -9,23 +10,24 @@ use Rattle.term_changes.specs.Entries.{Entry, slot_tree, subterm, subterm_annota
 use Rattle.session_history.specs.Preview.{Replacement, Preview}
 use Rattle.session_core.specs.Previewing.{IsEntryFor, AreThere}
 use Rattle.script_text.specs.Replies.{replacement_line, preview_line, preview_text}
-use Rattle.script_core.specs.inside.PreviewLines.{AreSubterms, part_at, entry_line}
+use Rattle.script_core.specs.inside.PreviewLines.{AreIn, entry_line}
 
-pub are_subterms : (plan : List Entry) (rs : List Replacement) → AllZip IsEntryFor plan rs → AreSubterms plan
-are_subterms [] rs are = tt
-are_subterms (subterm slot path t ∷ es) [] are = absurd are
-are_subterms (subterm slot path t ∷ es) (r ∷ rs) are = are_subterms es rs are.1
-are_subterms (slot_tree slot t ∷ es) [] are = absurd are
-are_subterms (slot_tree slot t ∷ es) (r ∷ rs) are = absurd are.0
-are_subterms (subterm_annotations slot path ts ∷ es) [] are = absurd are
-are_subterms (subterm_annotations slot path ts ∷ es) (r ∷ rs) are = absurd are.0
-are_subterms (slot_text slot x ∷ es) [] are = absurd are
-are_subterms (slot_text slot x ∷ es) (r ∷ rs) are = absurd are.0
+pub are_in : (tree : Tree) (plan : List Entry) (rs : List Replacement) → AllZip IsEntryFor plan rs → AreThere tree rs → AreIn tree plan
+are_in tree [] rs are there = tt
+are_in tree (subterm slot path t ∷ es) [] are there = absurd are
+are_in tree (subterm slot path t ∷ es) (r ∷ rs) are there = (ap (λ p. is_some (at tree p)) are.0.0 ∙ ap is_some there.0, are_in tree es rs are.1 there.1)
+are_in tree (slot_tree slot t ∷ es) [] are there = absurd are
+are_in tree (slot_tree slot t ∷ es) (r ∷ rs) are there = absurd are.0
+are_in tree (subterm_annotations slot path ts ∷ es) [] are there = absurd are
+are_in tree (subterm_annotations slot path ts ∷ es) (r ∷ rs) are there = absurd are.0
+are_in tree (slot_text slot x ∷ es) [] are there = absurd are
+are_in tree (slot_text slot x ∷ es) (r ∷ rs) are there = absurd are.0
 
 entry_line-is : (tree : Tree) (e : Entry) (r : Replacement) → IsEntryFor e r → at tree r.path ≡ Some r.old → entry_line tree e ≡ replacement_line r
 entry_line-is tree (subterm slot path t) r is there =
-    let old : part_at tree path ≡ r.old = ap (part_at tree) is.0 ∙ ap (λ o. unwrap_or o tree) there in
-    (λ i. replacement_line (record { path = is.0 i; old = old i; new = is.1 i }))
+    ap (λ p. entry_line tree (subterm slot p t)) is.0
+    ∙ ap (λ o. option_map_or (λ old. replacement_line (record { path = r.path; old = old; new = t })) o []) there
+    ∙ ap (λ u. replacement_line (record { path = r.path; old = r.old; new = u })) is.1
 entry_line-is tree (slot_tree slot t) r is there = absurd is
 entry_line-is tree (subterm_annotations slot path ts) r is there = absurd is
 entry_line-is tree (slot_text slot x) r is there = absurd is

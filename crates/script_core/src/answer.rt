@@ -223,6 +223,7 @@ fn perform<M: Meaning>(
         Command::Abandon => say_ok(session.abandon(), answer),
         Command::Show(name, path) => Ok(answer.write_term(find_place(session, name, path)?)?),
         Command::Pretty(name, path) => Ok(answer.write_pretty(find_place(session, name, path)?)?),
+        Command::Diff(name) => answer.write_diff(session, name.as_ref()),
         Command::Trees => Ok(answer.write_names(b"trees", &session.tree_names()?)?),
         Command::Modules => Ok(answer.write_names(b"modules", &session.module_names()?)?),
         Command::Text(name) => match session.module_text(name) {

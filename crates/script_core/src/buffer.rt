@@ -1,17 +1,18 @@
 //! The buffer of a command's answer.
 
-ghost use Rattle.std.specs.Prelude.{◌≡◌, ◌≤◌, ◌+◌, ◌++◌, ◌∷◌, [], IfOk, OnOk, decimal, length};
+ghost use Rattle.std.specs.Prelude.{◌≡◌, ◌⊎◌, ◌≤◌, ◌+◌, ◌++◌, ◌∷◌, [], Err, IfOk, OnOk, IfErr, decimal, length, option_copied};
 ghost use Rattle.aterm_text.specs.Layout.{pretty as pretty_of};
 ghost use Rattle.aterm_text.specs.Printed.{print as print_of, print_name as name_printed};
+ghost use Rattle.session_history.specs.Differences.{base_of, TellsChanges};
 ghost use Rattle.session_history.specs.Dump.{dumped};
 
 use aterm_text::{pretty, print, print_name};
 use itoa::Buffer;
 use prim_core::Meaning;
-use session_core::Session;
+use session_core::{Refusal, Session};
 use std::alloc::Global;
 use std::marker::Model;
-use term_core::{Name, NoMemory, Term};
+use term_core::{Label, Name, NoMemory, Term};
 
 /// The least capacity of an answer's buffer, so that a refusal always has room.
 pub const ANSWER_ROOM: usize = 128;
@@ -101,6 +102,18 @@ impl Answer {
         ensures { OnOk result (self.new ≡ self.old ++ dumped session.now.now) }
     {
         session.dump(&mut self.bytes)
+    }
+
+    pub(crate) fn append_diff<M: Meaning>(
+        &mut self,
+        session: &mut Session<M>,
+        name: Option<&Label>,
+    ) -> Result<(), Refusal>
+        ensures same { session.new ≡ session.old }
+        ensures ok { OnOk result (TellsChanges (option_copied name.entry) session.old self.old self.new) }
+        ensures refused { IfErr result (λ refusal. (refusal ≡ Refusal.Memory) ⊎ (base_of session.old ≡ Err refusal)) }
+    {
+        session.diff(name, &mut self.bytes)
     }
 
     pub(crate) fn push(&mut self, byte: u8) -> Result<(), NoMemory>

@@ -11,7 +11,7 @@ ghost use Rattle.script_text.specs.Replies.{budgets_in};
 ghost use Rattle.term_core.specs.declared.TheConstants.{MAX_HEIGHT, MAX_ROOM, MAX_SIZE};
 ghost use Rattle.aterm_text.specs.declared.TheConstants.{MAX_NESTING};
 ghost use Rattle.strategy_tokens.specs.declared.TheConstants.{MAX_TOKENS};
-ghost use Rattle.session_history.specs.declared.TheConstants.{MAX_BUDGET, MAX_STEPS};
+ghost use Rattle.session_history.specs.declared.TheConstants.{MAX_BUDGET, MAX_STEPS, MOST_STEPS};
 ghost use Rattle.script_text.specs.declared.TheConstants.{MAX_COMMAND};
 ghost use Rattle.script_core.specs.declared.buffer.TheConstants.{ANSWER_ROOM};
 ghost use Rattle.script_core.specs.declared.running.TheConstants.{MAX_READS};
@@ -51,9 +51,8 @@ pub fn dump_reads_back()
     printed_text_is_as_long();
 }
 
-/// A session has room for 100,000 terms and budgets of up to 1,000,000 steps, unless it is made
-/// with other limits: then a term fits, and a command may name a budget, as it would by these
-/// numbers.
+/// Unless a session is made with other limits, a term fits if its size is at most 100,000, and a
+/// command may name a budget of up to 1,000,000 steps.
 pub fn limits_by_default()
     ensures session { (primitives : List Signature) → (empty_history primitives).limits ≡ default_limits }
     ensures terms { (level : ℕ) (t : Tree) → fits default_limits.max_terms level t
@@ -65,7 +64,8 @@ pub fn limits_by_default()
 /// The values of the bounds that definitions name: the height and the size of terms, the bytes of
 /// names, the open brackets in a term's text, the tokens of a strategy's or module's text, the
 /// bytes of commands, the steps of `undo` and `redo`, budgets, the reads of a run, and the least
-/// capacity of an answer's buffer.
+/// capacity of an answer's buffer. Of the size and of budgets both are there: by default, and the
+/// greatest that options give.
 pub fn bounds()
     ensures height { MAX_HEIGHT ≡ 1000 }
     ensures size { MAX_SIZE ≡ 100000 }
@@ -77,6 +77,7 @@ pub fn bounds()
     ensures command { MAX_COMMAND ≡ 65536 }
     ensures steps { MAX_STEPS ≡ 1000000 }
     ensures budget { MAX_BUDGET ≡ 1000000 }
+    ensures greatest_budget { MOST_STEPS ≡ 4000000000 }
     ensures reads { MAX_READS ≡ 1000000000 }
     ensures room { ANSWER_ROOM ≡ 128 }
 {}

@@ -1,14 +1,15 @@
 //! The lines of answers. Each call replaces what was in the answer.
 
-ghost use Rattle.std.specs.Prelude.{◌≡◌, OnOk, codes};
+ghost use Rattle.std.specs.Prelude.{◌≡◌, ◌⊎◌, [], Err, OnOk, IfErr, codes, option_copied};
 ghost use Rattle.aterm_text.specs.Layout.{pretty as pretty_of};
 ghost use Rattle.aterm_text.specs.Printed.{print as print_of};
+ghost use Rattle.session_history.specs.Differences.{base_of, TellsChanges};
 ghost use Rattle.session_history.specs.Dump.{dumped};
 ghost use Rattle.script_text.specs.Replies.{line, listed, counted};
 
 use crate::buffer::Answer;
 use prim_core::Meaning;
-use session_core::Session;
+use session_core::{Refusal, Session};
 use term_core::{Label, NoMemory, Term};
 
 impl Answer {
@@ -41,6 +42,20 @@ impl Answer {
         self.clear();
         self.append_pretty(tree)?;
         self.push(b'\n')
+    }
+
+    /// Writes what the last step changed, in all or of the name.
+    pub(crate) fn write_diff<M: Meaning>(
+        &mut self,
+        session: &mut Session<M>,
+        name: Option<&Label>,
+    ) -> Result<(), Refusal>
+        ensures same { session.new ≡ session.old }
+        ensures ok { OnOk result (TellsChanges (option_copied name.entry) session.old [] self.new) }
+        ensures refused { IfErr result (λ refusal. (refusal ≡ Refusal.Memory) ⊎ (base_of session.old ≡ Err refusal)) }
+    {
+        self.clear();
+        self.append_diff(session, name)
     }
 
     pub(crate) fn write_line(&mut self, text: &[u8]) -> Result<(), NoMemory>

@@ -5,7 +5,7 @@ ghost use Rattle.std.specs.List.{flat_map};
 ghost use Rattle.script_text.specs.Form.{preview as preview_form};
 ghost use Rattle.script_text.specs.Replies.{Replies, path_text, preview_line, replacement_line};
 ghost use Rattle.script_core.specs.inside.Performing.{PerformedRight};
-ghost use Rattle.script_core.specs.inside.PreviewLines.{AreSubterms, entry_line};
+ghost use Rattle.script_core.specs.inside.PreviewLines.{AreIn, entry_line};
 
 use crate::buffer::Answer;
 use prim_core::Meaning;
@@ -34,14 +34,16 @@ pub(crate) fn show_preview<M: Meaning>(
 
 impl Answer {
     fn write_preview(&mut self, tree: &Term, preview: &Preview) -> Result<(), NoMemory>
-        requires { AreSubterms preview.now.plan }
+        requires { AreIn tree.now preview.now.plan }
         ensures { OnOk result (self.new
             ≡ preview_line (length preview.now.plan) preview.now.steps ++ flat_map (entry_line tree.now) preview.now.plan) }
     {
         let mut places = preview.places();
         self.write_totals(places.count() as u64, preview.steps)?;
         while let Some((path, new)) = places.next() {
-            let old = at_parts(tree, path).unwrap_or(tree);
+            let Some(old) = at_parts(tree, path) else {
+                unreachable!()
+            };
             self.append_replacement(path, old, new)?;
         }
         Ok(())

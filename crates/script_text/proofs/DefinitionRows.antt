@@ -1,11 +1,11 @@
 -- The definitions, computed on worked rows.
-use Rattle.std.proofs.Common.{◌≡◌, [], ◌∷◌, ◌++◌, None, Ok, Err, refl, codes, true, false}
+use Rattle.std.proofs.Common.{◌≡◌, [], ◌∷◌, ◌++◌, Some, None, Ok, Err, refl, codes, true, false}
 use Rattle.session_history.specs.History.{empty_history}
 use Rattle.session_modules.specs.declared.refusal.Refusal.TheVariants.{Line, Name, Memory}
 use Rattle.script_text.specs.declared.framing.Framing.TheVariants.{Continued, Lines}
 use Rattle.script_text.specs.Script.{commands, complete}
 use Rattle.script_text.specs.Handed.{handed}
-use Rattle.script_text.specs.Form.{tree, show, pretty, put, apply, undo, command_of, takes_no_memory}
+use Rattle.script_text.specs.Form.{tree, show, pretty, diff, put, apply, undo, command_of, takes_no_memory}
 use Rattle.script_text.specs.declared.command.Budgets.{Budgets}
 use Rattle.script_text.specs.Answer.{ReplyInRun}
 use Rattle.script_text.specs.Run.{Replied}
@@ -62,6 +62,12 @@ reads_no_place = refl
 
 reads_pretty : command_of budgets (codes "pretty t at /2") ≡ Ok (pretty (codes "t") (2 ∷ []))
 reads_pretty = refl
+
+reads_diff : command_of budgets (codes "diff ") ≡ Ok (diff None)
+reads_diff = refl
+
+reads_diff_of : command_of budgets (codes "diff t") ≡ Ok (diff (Some (codes "t")))
+reads_diff_of = refl
 
 reads_apply : command_of budgets (codes "apply t at /1 within 07 do id; f") ≡ Ok (apply (codes "t") (1 ∷ []) 7 (codes "id; f"))
 reads_apply = refl

@@ -1,7 +1,7 @@
 -- A parsed command, as its form.
 use Rattle.script_text.specs.Form as f
 use Rattle.script_text.specs.declared.command.Command.{Command}
-use Rattle.script_text.specs.declared.command.Command.TheVariants.{Tree, Copy, Drop, Put, Annotate, Module, Unload, Apply, Preview, Undo, Redo, Begin, Commit, Abandon, Show, Pretty, Trees, Modules, Text, History, Dump}
+use Rattle.script_text.specs.declared.command.Command.TheVariants.{Tree, Copy, Drop, Put, Annotate, Module, Unload, Apply, Preview, Undo, Redo, Begin, Commit, Abandon, Show, Pretty, Diff, Trees, Modules, Text, History, Dump}
 
 abbrev pub form : Command → f.Form
 form (Tree name text) = f.tree name text.now
@@ -20,6 +20,7 @@ form Commit = f.commit
 form Abandon = f.abandon
 form (Show name path) = f.show name path
 form (Pretty name path) = f.pretty name path
+form (Diff name) = f.diff name
 form Trees = f.trees
 form Modules = f.modules
 form (Text name) = f.module_text name

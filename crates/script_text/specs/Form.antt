@@ -31,6 +31,7 @@ pub data Form : Type 0 where
   abandon : Form  -- undoes the changes of the group
   show : List ℕ → List ℕ → Form  -- shows the subterm at the path of the name's tree
   pretty : List ℕ → List ℕ → Form  -- shows it over lines
+  diff : Option (List ℕ) → Form  -- shows what the last step changed, in all or of the name
   trees : Form  -- lists the names of the trees
   modules : Form  -- lists the names of the modules
   module_text : List ℕ → Form  -- shows the text of the name's module
@@ -82,6 +83,10 @@ last_name rest =
 abbrev pub up_to : ℕ → List ℕ → Option ℕ
 up_to most digits =
     option_and_then (λ n. if nat_le 1 n && nat_le n most then Some n else None) (part_of digits)
+
+-- A form that ends with a name, or here.
+abbrev pub optional_name : List ℕ → Option (Option (List ℕ))
+optional_name rest = if has_word rest then option_map Some (last_name rest) else Some None
 
 -- A form that ends with a number of steps, up to 1,000,000, which is 1 if it is missing.
 abbrev pub last_steps : List ℕ → Option ℕ
@@ -159,6 +164,7 @@ form_with budgets keyword rest =
     then with_word rest (λ name after. option_map (show name) (last_place after)) else
     if bytes_eq keyword (codes "pretty")
     then with_word rest (λ name after. option_map (pretty name) (last_place after)) else
+    if bytes_eq keyword (codes "diff") then option_map diff (optional_name rest) else
     if bytes_eq keyword (codes "trees") then ended trees rest else
     if bytes_eq keyword (codes "modules") then ended modules rest else
     if bytes_eq keyword (codes "text") then option_map module_text (last_name rest) else
@@ -183,6 +189,8 @@ has_labels (apply name path budget text) = is_some (label_of name)
 has_labels (preview name path budget text) = is_some (label_of name)
 has_labels (show name path) = is_some (label_of name)
 has_labels (pretty name path) = is_some (label_of name)
+has_labels (diff (Some name)) = is_some (label_of name)
+has_labels (diff None) = true
 has_labels (module_text name) = is_some (label_of name)
 has_labels (undo n) = true
 has_labels (redo n) = true
@@ -232,6 +240,7 @@ is_without_memory (preview name path budget text) = false
 is_without_memory commit = false
 is_without_memory (show name path) = false
 is_without_memory (pretty name path) = false
+is_without_memory (diff name) = false
 is_without_memory trees = false
 is_without_memory modules = false
 is_without_memory (module_text name) = false

@@ -4,8 +4,8 @@ use Rattle.std.specs.declared.option.Option.{Option}
 use Rattle.std.specs.Str.{bytes_eq}
 use Rattle.script_text.specs.declared.command.Budgets.{Budgets}
 use Rattle.script_text.specs.declared.keyword.Keyword.{Keyword}
-use Rattle.script_text.specs.declared.keyword.Keyword.TheVariants.{Tree, Copy, Drop, Put, Annotate, Module, Unload, Apply, Preview, Undo, Redo, Begin, Commit, Abandon, Show, Pretty, Trees, Modules, Text, History, Dump, Other}
-use Rattle.script_text.specs.Form.{Form, tree, copy, drop_tree, put, annotate, set_module, unload, apply, preview, undo, redo, begin, commit, abandon, show, pretty, trees, modules, module_text, history, dump, with_word, ended, last_text, with_path_and_text, last_name, last_steps, last_place, strategy_form}
+use Rattle.script_text.specs.declared.keyword.Keyword.TheVariants.{Tree, Copy, Drop, Put, Annotate, Module, Unload, Apply, Preview, Undo, Redo, Begin, Commit, Abandon, Show, Pretty, Diff, Trees, Modules, Text, History, Dump, Other}
+use Rattle.script_text.specs.Form.{Form, tree, copy, drop_tree, put, annotate, set_module, unload, apply, preview, undo, redo, begin, commit, abandon, show, pretty, diff, trees, modules, module_text, history, dump, with_word, ended, last_text, with_path_and_text, last_name, optional_name, last_steps, last_place, strategy_form}
 
 -- the keyword that a word is
 abbrev pub keyword_at : List ℕ → Keyword
@@ -26,6 +26,7 @@ keyword_at word =
     if bytes_eq word (codes "abandon") then Abandon else
     if bytes_eq word (codes "show") then Show else
     if bytes_eq word (codes "pretty") then Pretty else
+    if bytes_eq word (codes "diff") then Diff else
     if bytes_eq word (codes "trees") then Trees else
     if bytes_eq word (codes "modules") then Modules else
     if bytes_eq word (codes "text") then Text else
@@ -74,6 +75,7 @@ form_after Commit budgets rest = ended commit rest
 form_after Abandon budgets rest = ended abandon rest
 form_after Show budgets rest = show_form rest
 form_after Pretty budgets rest = pretty_form rest
+form_after Diff budgets rest = option_map diff (optional_name rest)
 form_after Trees budgets rest = ended trees rest
 form_after Modules budgets rest = ended modules rest
 form_after Text budgets rest = option_map module_text (last_name rest)

@@ -15,12 +15,13 @@ use Rattle.session_history.specs.Applying.{Meaning}
 use Rattle.session_history.specs.Acts as session
 use Rattle.session_history.specs.Preview.{Replacement, Preview, Previews}
 use Rattle.session_history.specs.Dump.{dumped}
+use Rattle.session_history.specs.Differences.{base_of, changes_of, diff_text}
 use Rattle.session_modules.specs.Refusal.{number_of, word_of}
 use Rattle.session_modules.specs.declared.refusal.Refusal.{Refusal}
 use Rattle.session_modules.specs.declared.refusal.Refusal.TheVariants.{Long, Term, Check}
 use Rattle.script_text.specs.Handed.{Handed, text as handed_text, long}
 use Rattle.script_text.specs.declared.command.Budgets.{Budgets}
-use Rattle.script_text.specs.Form.{Form, tree, copy, drop_tree, put, annotate, set_module, unload, apply, preview, undo, redo, begin, commit, abandon, show, pretty, trees, modules, module_text, history, dump, command_of}
+use Rattle.script_text.specs.Form.{Form, tree, copy, drop_tree, put, annotate, set_module, unload, apply, preview, undo, redo, begin, commit, abandon, show, pretty, diff, trees, modules, module_text, history, dump, command_of}
 
 -- an accepted command: its answer, line feeds included, and the history after it
 pub record Accepted : Type 0 where
@@ -114,6 +115,7 @@ Replies meaning abandon h = Told (session.ComesTo session.abandon h)
 Replies meaning (show name path) h = Is (shown (λ place. line (print place.part)) h (session.place_of h.now name path))
 Replies meaning (pretty name path) h =
     Is (shown (λ place. line (pretty_text 0 place.part)) h (session.place_of h.now name path))
+Replies meaning (diff name) h = Is (shown (λ base. diff_text (changes_of name base h.now)) h (base_of h))
 Replies meaning trees h = Is (Ok (told_of h (listed (codes "trees") (finmap.keys h.now.trees))))
 Replies meaning modules h = Is (Ok (told_of h (listed (codes "modules") (finmap.keys h.now.modules))))
 Replies meaning (module_text name) h = Is (shown line h (session.module_text_of h.now name))

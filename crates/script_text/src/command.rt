@@ -1,13 +1,13 @@
 //! The forms of commands.
 
-ghost use Rattle.std.specs.Prelude.{◌≡◌, ◌≤◌, length, ◌⊎◌, ℕ, List, true, false, IfOk, IfErr, Ok, Err, Some, None, option_copied};
+ghost use Rattle.std.specs.Prelude.{◌≡◌, ◌≤◌, length, ◌⊎◌, ℕ, List, true, false, IfOk, IfErr, Ok, Err, Some, None, option_copied, option_map};
 ghost use Rattle.std.specs.List.{prefix_len, suffix_len, position_or_len};
 ghost use Rattle.term_core.specs.Word.{label_of};
 ghost use Rattle.term_paths.specs.PathText.{path_of};
 ghost use Rattle.aterm_text.specs.Tokens.{is_blank, without_blanks};
 ghost use Rattle.script_text.specs.Script.{without_end};
 ghost use Rattle.script_text.specs.declared.command.Budgets.{Budgets};
-ghost use Rattle.script_text.specs.Form.{tree, put, annotate, set_module, apply, preview, show, pretty, command_of, form_of, checked, strategy_form, last_name, last_steps, option_word, after_option, path_or_root, budget_or, up_to, ended, is_without_memory, takes_no_memory, front_word, after_word, has_word};
+ghost use Rattle.script_text.specs.Form.{tree, put, annotate, set_module, apply, preview, show, pretty, diff, command_of, form_of, checked, has_labels, strategy_form, last_name, optional_name, last_steps, option_word, after_option, path_or_root, budget_or, up_to, ended, is_without_memory, takes_no_memory, front_word, after_word, has_word};
 ghost use Rattle.script_text.specs.CommandView.{form as form_seen};
 ghost use Rattle.script_text.specs.KeywordView.{form_after, is_without_memory_after, tree_form, copy_form, put_form, annotate_form, module_form, show_form, pretty_form};
 ghost use Rattle.script_text.specs.Reading.{ReadRight};
@@ -63,6 +63,8 @@ pub enum Command<'a> {
     Show(Label, Path),
     /// Shows it over lines.
     Pretty(Label, Path),
+    /// Shows what the last step changed, in all or of the name.
+    Diff(Option<Label>),
     /// Lists the names of the trees.
     Trees,
     /// Lists the names of the modules.
@@ -145,6 +147,7 @@ impl<'a> Command<'a> {
                 let (name, path) = read_name_and_place(alloc, rest)?;
                 Ok(Command::Pretty(name, path))
             }
+            Keyword::Diff => Ok(Command::Diff(read_optional_name(alloc, rest)?)),
             Keyword::Trees => read_ended(Command::Trees, rest),
             Keyword::Modules => read_ended(Command::Modules, rest),
             Keyword::Text => Ok(Command::Text(read_last_name(alloc, rest)?)),
@@ -266,6 +269,20 @@ fn read_last_name(alloc: Global, rest: &[u8]) -> Result<Label, Refusal>
         return Err(Refusal::Line);
     }
     read_label(alloc, name)
+}
+
+// A name at the end of a form, if there is one.
+fn read_optional_name(alloc: Global, rest: &[u8]) -> Result<Option<Label>, Refusal>
+    ensures ok { IfOk result (λ name. optional_name rest.now ≡ Some name) }
+    ensures label { IfOk result (λ name. has_labels (diff name) ≡ true) }
+    ensures refused { IfErr result (λ refusal. (refusal ≡ Refusal.Memory)
+        ⊎ (checked (option_map diff (optional_name rest.now)) ≡ Err refusal)) }
+{
+    if has_more(rest) {
+        Ok(Some(read_last_name(alloc, rest)?))
+    } else {
+        Ok(None)
+    }
 }
 
 // The path of a word, or the root if there is none.

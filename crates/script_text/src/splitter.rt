@@ -59,7 +59,7 @@ pub enum LineState {
 
 /// What follows the complete command: the next one's first byte, or nothing.
 #[derive(Clone, Copy)]
-pub enum Next {
+pub enum Following {
     /// The line that completes it begins a command, with `returns` carriage returns and a byte.
     Begun { returns: usize, byte: u8 },
     /// Nothing: its own line feed completes it.
@@ -80,7 +80,7 @@ pub struct Unfinished {
 #[derive(Drop)]
 pub struct Splitter {
     open: Unfinished,
-    next: Option<Next>,
+    next: Option<Following>,
 }
 
 impl Model for Splitter {
@@ -156,13 +156,13 @@ impl Splitter {
 
 impl Unfinished {
     // Drops the complete command, if there is one, in favour of what comes after it.
-    fn go_on_after(&mut self, next: Option<Next>)
+    fn go_on_after(&mut self, next: Option<Following>)
         ensures { self.new ≡ left_behind self.old next }
     {
         match next {
             None => {}
-            Some(Next::Begun { returns, byte }) => self.begin(returns, byte),
-            Some(Next::Nothing) => self.forget(),
+            Some(Following::Begun { returns, byte }) => self.begin(returns, byte),
+            Some(Following::Nothing) => self.forget(),
         }
     }
 
@@ -206,7 +206,7 @@ impl Unfinished {
 
     // Consumes a byte. If it completes the pending command, returns what comes after it; the
     // command stays.
-    fn take(&mut self, byte: u8) -> Option<Next>
+    fn take(&mut self, byte: u8) -> Option<Following>
         ensures { Takes (taken self.old byte) result self.new }
     {
         match self.framing {
@@ -215,7 +215,7 @@ impl Unfinished {
         }
     }
 
-    fn take_continued(&mut self, byte: u8) -> Option<Next>
+    fn take_continued(&mut self, byte: u8) -> Option<Following>
         ensures { Takes (continued_at self.old.place self.old byte) result self.new }
     {
         match self.place {
@@ -227,7 +227,7 @@ impl Unfinished {
     }
 
     // A byte at the start of a line.
-    fn take_first(&mut self, byte: u8) -> Option<Next>
+    fn take_first(&mut self, byte: u8) -> Option<Following>
         requires { self.old.place ≡ LineState.Start }
         ensures { Takes (at_start self.old byte) result self.new }
     {
@@ -277,12 +277,12 @@ impl Unfinished {
     }
 
     // A line begins a command. The one before it, if there is one, is complete.
-    fn begin_line(&mut self, byte: u8) -> Option<Next>
+    fn begin_line(&mut self, byte: u8) -> Option<Following>
         ensures { Takes (record { out = self.old.command; left = begun self.old.framing self.old.returns byte }) result self.new }
     {
         let returns = self.returns;
         if self.command.is_there() {
-            return Some(Next::Begun { returns, byte });
+            return Some(Following::Begun { returns, byte });
         }
         self.begin(returns, byte);
         None
@@ -312,7 +312,7 @@ impl Unfinished {
         self.returns = 0;
     }
 
-    fn take_own_line(&mut self, byte: u8) -> Option<Next>
+    fn take_own_line(&mut self, byte: u8) -> Option<Following>
         ensures { Takes (own_line_at self.old.place self.old byte) result self.new }
     {
         match self.place {
@@ -342,7 +342,7 @@ impl Unfinished {
     }
 
     // A byte in a line that is a command. The line feed completes it.
-    fn take_own_kept(&mut self, byte: u8) -> Option<Next>
+    fn take_own_kept(&mut self, byte: u8) -> Option<Following>
         requires { self.old.place ≡ LineState.Kept }
         ensures { Takes (in_own_line self.old byte) result self.new }
     {
@@ -350,7 +350,7 @@ impl Unfinished {
             b'\r' => self.hold_return(),
             b'\n' => {
                 if self.command.is_there() {
-                    return Some(Next::Nothing);
+                    return Some(Following::Nothing);
                 }
                 self.forget();
             }

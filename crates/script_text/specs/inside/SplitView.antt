@@ -7,30 +7,30 @@ use Rattle.script_text.specs.declared.framing.Framing.TheVariants.{Continued, Li
 use Rattle.script_text.specs.declared.splitter.LineState.{LineState}
 use Rattle.script_text.specs.declared.splitter.LineState.TheVariants.{Start, Kept, Comment, Skipped}
 use Rattle.script_text.specs.declared.splitter.Unfinished.{Unfinished}
-use Rattle.script_text.specs.declared.splitter.Next.{Next}
-use Rattle.script_text.specs.declared.splitter.Next.TheVariants.{Begun, Nothing}
+use Rattle.script_text.specs.declared.splitter.Following.{Following}
+use Rattle.script_text.specs.declared.splitter.Following.TheVariants.{Begun, Nothing}
 use Rattle.script_text.specs.Handed.{Handed}
 use Rattle.script_text.specs.inside.HandedCode.{handed_code}
 use Rattle.script_text.specs.Splitting.{Taken, going, begun, nothing}
 use Rattle.script_text.specs.Split.{Split}
 
 -- What is pending after a command was completed, if one was.
-abbrev pub begins_with : Framing → Next → Unfinished
+abbrev pub begins_with : Framing → Following → Unfinished
 begins_with framing (Begun returns byte) = begun framing returns byte
 begins_with framing Nothing = nothing framing
 
-abbrev pub left_behind : Unfinished → Option Next → Unfinished
+abbrev pub left_behind : Unfinished → Option Following → Unfinished
 left_behind s None = s
 left_behind s (Some next) = begins_with s.framing next
 
 -- What a byte does: it completes no command, and this is pending after it; or it completes the pending
 -- command, which stays, and this is what comes after it.
-pub record Takes (taken : Taken) (result : Option Next) (after : Unfinished) : Type 0 where
+pub record Takes (taken : Taken) (result : Option Following) (after : Unfinished) : Type 0 where
   pub goes : IfNone result (taken ≡ going after)
   pub completes : IfSome result (λ next. taken ≡ record { out = after.command; left = begins_with after.framing next })
   pub there : IfSome result (λ next. is_some after.command ≡ true)
 
-abbrev pub split_of : Unfinished → Option Next → Split
+abbrev pub split_of : Unfinished → Option Following → Split
 split_of s next = record { to_hand_out = s.command; left = left_behind s next }
 
 abbrev to_bits : LineState → Bool × Bool

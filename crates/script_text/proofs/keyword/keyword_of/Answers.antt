@@ -28,6 +28,9 @@ returns-in-preview-clause-keyword c = ap keyword_at (same_bytes (codes "preview"
 pub returns-in-pretty-clause-keyword : goal.returns-in-pretty-clause-keyword
 returns-in-pretty-clause-keyword c = ap keyword_at (same_bytes (codes "pretty") c.args.word.now (omega arith) (search rules))
 
+pub returns-in-diff-clause-keyword : goal.returns-in-diff-clause-keyword
+returns-in-diff-clause-keyword c = ap keyword_at (same_bytes (codes "diff") c.args.word.now (omega arith) (search rules))
+
 pub returns-in-abandon-clause-keyword : goal.returns-in-abandon-clause-keyword
 returns-in-abandon-clause-keyword c = ap keyword_at (same_bytes (codes "abandon") c.args.word.now (omega arith) (search rules))
 
