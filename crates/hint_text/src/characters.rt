@@ -54,14 +54,14 @@ pub fn character_at(text: &[u8], at: usize) -> &[u8] {
 
 /// A place of a text: the number of its line, and what this line has before it and after it.
 #[derive(Clone, Copy)]
-pub struct Place<'a> {
+pub struct TextPlace<'a> {
     pub line: u64,
     pub before: &'a [u8],
     pub after: &'a [u8],
 }
 
 /// The place after so many bytes of a text whose first line has this number.
-pub fn place_of(text: &[u8], first: u64, at: usize) -> Place<'_> {
+pub fn place_of(text: &[u8], first: u64, at: usize) -> TextPlace<'_> {
     let (before, after) = text.split_at(at.min(text.len()));
     let mut line = first;
     let mut start = 0;
@@ -71,7 +71,7 @@ pub fn place_of(text: &[u8], first: u64, at: usize) -> Place<'_> {
             start = number.saturating_add(1);
         }
     }
-    Place {
+    TextPlace {
         line,
         before: before.get(start..).unwrap_or(&[]),
         after: after.split(|byte| *byte == b'\n').next().unwrap_or(after),

@@ -10,6 +10,7 @@ apply N [at P] [within K] do S
 begin
 commit
 copy N C
+diff [N]
 drop N
 dump
 history
@@ -104,7 +105,7 @@ impl<'a> Parts<'a> {
         let (word, mut rest) = split_word(self.text);
         let (next, after) = split_word(rest);
         match operand {
-            "N" => self.name = word,
+            "N" | "[N]" => self.name = word,
             "C" => self.copy = word,
             "P" => self.path = Some(word),
             "[K]" => self.number = Some(word),
@@ -188,7 +189,7 @@ impl Past {
 
 /// A command, as it stands in a script.
 #[derive(Clone, Copy)]
-pub struct Seen<'a> {
+pub struct ScriptCommand<'a> {
     /// The file whose text it loads, if it is none of a script. The file then begins on the line
     /// after the one on which the command begins.
     pub file: Option<&'a str>,
@@ -200,7 +201,7 @@ pub struct Seen<'a> {
     pub comments: &'a [u64],
     /// Its bytes; none if it is longer than 65,536.
     pub text: &'a [u8],
-    /// The budget of a command that names none, from 1 to 1,000,000.
+    /// The budget of a command that names none.
     pub budget: u32,
     /// Where a command ends.
     pub framing: Framing,

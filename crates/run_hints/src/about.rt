@@ -36,7 +36,7 @@ pub struct Body<'a> {
 
 /// Where a strategy is.
 #[derive(Clone, Copy)]
-pub struct Place<'a> {
+pub struct StrategyPlace<'a> {
     /// The body that has it, or the first of those that it chooses among; none if the command has
     /// it.
     pub body: Option<Body<'a>>,
@@ -104,7 +104,11 @@ impl Body<'_> {
 impl<'a> About<'a> {
     /// Where a strategy is that was begun within these calls, the outermost first. It may have been
     /// an argument of one of them, and so belong to one further out, or to the command.
-    pub fn find(&self, calls: &[Called<'_>], wanted: &ResolvedStrategy) -> Option<Place<'a>> {
+    pub fn find(
+        &self,
+        calls: &[Called<'_>],
+        wanted: &ResolvedStrategy,
+    ) -> Option<StrategyPlace<'a>> {
         for outer in (0..calls.len()).rev() {
             let inner = calls.get(outer..).unwrap_or(&[]);
             if let Some((call, others)) = inner.split_first()
@@ -117,7 +121,7 @@ impl<'a> About<'a> {
         }
         let whole = Node::new(&self.resolved.strategy, self.named, true);
         let node = whole.find(wanted, DEEPEST)?;
-        Some(Place {
+        Some(StrategyPlace {
             body: None,
             node: Some(node),
             calls: 0,
@@ -126,14 +130,14 @@ impl<'a> About<'a> {
 
     // Where it is in the bodies of a definition. The last body follows the choices among the
     // others.
-    fn find_in(&self, definition: usize, wanted: &ResolvedStrategy) -> Option<Place<'a>> {
+    fn find_in(&self, definition: usize, wanted: &ResolvedStrategy) -> Option<StrategyPlace<'a>> {
         let mut rest = &self.program.definitions().get(definition)?.strategy;
         let mut number = 0usize;
         for body in self.bodies {
             if body.number == definition {
                 number = number.saturating_add(1);
                 let mut part = rest;
-                let mut place = Place {
+                let mut place = StrategyPlace {
                     body: Some(*body),
                     node: None,
                     calls: 0,

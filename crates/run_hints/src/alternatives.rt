@@ -1,6 +1,6 @@
 //! The alternatives of a choice that failed, and why each did.
 
-use crate::about::{About, Body, Place};
+use crate::about::{About, Body, StrategyPlace};
 use crate::matching::{Miss, find_miss, matched, may_match};
 use crate::observing::Called;
 use crate::printing::DEEPEST;
@@ -23,7 +23,7 @@ pub enum Alternative<'a> {
 /// around it first.
 pub fn alternatives<'a>(
     about: About<'a>,
-    place: Place<'a>,
+    place: StrategyPlace<'a>,
     calls: &[Called<'_>],
 ) -> Result<Vec<Alternative<'a>>, NoMemory> {
     let mut found = Vec::new(about.alloc);
@@ -53,7 +53,7 @@ pub fn alternatives<'a>(
 fn add_around<'a>(
     about: About<'a>,
     found: &mut Vec<Alternative<'a>>,
-    place: Place<'a>,
+    place: StrategyPlace<'a>,
 ) -> Result<(), NoMemory> {
     if let Some(node) = place.node {
         let is_choice = matches!(node.named.form(), StrategyForm::Guard(_));
@@ -154,7 +154,7 @@ impl Teller<'_> {
     pub fn say_alternatives(
         &mut self,
         found: &[Alternative<'_>],
-        place: Place<'_>,
+        place: StrategyPlace<'_>,
         term: &Term,
         most: usize,
     ) -> Result<(), NoMemory> {
@@ -176,7 +176,7 @@ impl Teller<'_> {
 
     // Appends a line on alternatives for terms with another root: of bodies of the definition that
     // has the place only their lines.
-    fn say_others(&mut self, others: &[Alternative<'_>], place: Place<'_>) {
+    fn say_others(&mut self, others: &[Alternative<'_>], place: StrategyPlace<'_>) {
         let own = place.body.map(|body| body.number);
         let are_bodies = others.iter().all(|other| match other {
             Alternative::Body(body) => own == Some(body.number),

@@ -1,10 +1,10 @@
 //! Runs of commands, run again and looked at.
 
 use crate::about::{About, bodies_of};
-use crate::observing::{Kept, Observer, Wanted};
+use crate::observing::{Observer, RunRecord, Wanted};
 use crate::spending::sum;
 use crate::telling::{Piece, Teller};
-use hint_text::{Seen, Text, parts_of, read_modules, say};
+use hint_text::{ScriptCommand, Text, parts_of, read_modules, say};
 use prim_core::Meaning;
 use session_core::{Refusal, Session};
 use std::alloc::Global;
@@ -23,7 +23,7 @@ use term_paths::{Path, at, read_number, read_path};
 pub fn explain_run<'a, M: Meaning>(
     alloc: Global,
     session: &'a Session<M>,
-    seen: &Seen<'a>,
+    seen: &ScriptCommand<'a>,
     refusal: &Refusal,
 ) -> Result<Vec<u8>, NoMemory> {
     let wanted = match refusal {
@@ -45,7 +45,7 @@ pub fn explain_run<'a, M: Meaning>(
 pub fn profile_run<'a, M: Meaning>(
     alloc: Global,
     session: &'a Session<M>,
-    seen: &Seen<'a>,
+    seen: &ScriptCommand<'a>,
     tree: &'a Term,
 ) -> Result<Vec<u8>, NoMemory> {
     look_at(alloc, session, seen, tree, Wanted::Steps)
@@ -55,7 +55,7 @@ pub fn profile_run<'a, M: Meaning>(
 pub fn tree_of<'a, M: Meaning>(
     alloc: Global,
     session: &'a Session<M>,
-    seen: &Seen<'_>,
+    seen: &ScriptCommand<'_>,
 ) -> Option<&'a Term> {
     let parts = parts_of(seen.text);
     if !parts.is_strategy() {
@@ -71,7 +71,7 @@ pub fn tree_of<'a, M: Meaning>(
 fn look_at<'a, M: Meaning>(
     alloc: Global,
     session: &'a Session<M>,
-    seen: &Seen<'a>,
+    seen: &ScriptCommand<'a>,
     tree: &'a Term,
     wanted: Wanted,
 ) -> Result<Vec<u8>, NoMemory> {
@@ -106,7 +106,7 @@ fn look_at<'a, M: Meaning>(
 
 fn look_at_run<M: Meaning>(
     session: &Session<M>,
-    seen: &Seen<'_>,
+    seen: &ScriptCommand<'_>,
     about: About<'_>,
     wanted: Wanted,
 ) -> Result<Vec<u8>, NoMemory> {
@@ -118,7 +118,7 @@ fn look_at_run<M: Meaning>(
 
 fn tell<'a, M: Meaning>(
     session: &Session<M>,
-    seen: &Seen<'_>,
+    seen: &ScriptCommand<'_>,
     about: About<'a>,
     modules: &'a [Text<'a>],
     wanted: Wanted,
@@ -136,7 +136,7 @@ fn tell<'a, M: Meaning>(
 fn tell_run<M: Meaning>(
     teller: &mut Teller<'_>,
     session: &Session<M>,
-    seen: &Seen<'_>,
+    seen: &ScriptCommand<'_>,
     wanted: Wanted,
 ) -> Result<(), NoMemory> {
     let kept = watch(session, seen, teller.about, wanted)?;
@@ -165,10 +165,10 @@ fn tell_run<M: Meaning>(
 // Runs it again, and returns what is kept of that.
 fn watch<'t, M: Meaning>(
     session: &'t Session<M>,
-    seen: &Seen<'_>,
+    seen: &ScriptCommand<'_>,
     about: About<'t>,
     wanted: Wanted,
-) -> Result<Kept<'t>, NoMemory> {
+) -> Result<RunRecord<'t>, NoMemory> {
     let steps = match read_number(parts_of(seen.text).number.unwrap_or(&[])) {
         Some(budget) => budget as u64,
         None => u64::from(seen.budget),
@@ -181,16 +181,14 @@ fn watch<'t, M: Meaning>(
         primitives,
         room,
     };
-    let kept = Kept::new(about, wanted, steps)?;
-    let mut observer = Observer { host, kept };
+    let kept = RunRecord::new(about, wanted, steps)?;
+    let mut observer = Observer { host: &host, kept };
     let level = about.path.len() as u64;
     if let Some(most) = MAX_HEIGHT.checked_sub(level)
         && term.height() <= most
     {
         let (alloc, strategy, look) = (about.alloc, about.resolved, &mut observer);
-        let ended = plan_patch_seen(
-            alloc, program, primitives, term, level, room, strategy, steps, look,
-        );
+        let ended = plan_patch_seen(alloc, &host, term, level, strategy, steps, look);
         if ended.is_err() && !observer.kept.is_complete() {
             return Err(NoMemory);
         }

@@ -1,6 +1,6 @@
 //! Why a run failed, and where it met a term that is too big.
 
-use crate::about::Place;
+use crate::about::StrategyPlace;
 use crate::alternatives::alternatives;
 use crate::finding::are_same;
 use crate::matching::{Binding, find_miss, matched};
@@ -70,7 +70,7 @@ impl Teller<'_> {
     }
 
     // The strategy, what it did with which term, and where both are.
-    fn say_stand(&mut self, place: Place<'_>, stand: &Stand<'_>, did: &'static str) {
+    fn say_stand(&mut self, place: StrategyPlace<'_>, stand: &Stand<'_>, did: &'static str) {
         let (did, term) = (Piece::Words(did), Piece::Term(&stand.focus));
         match place.node {
             Some(node) => {
@@ -97,7 +97,11 @@ impl Teller<'_> {
     }
 
     // Says why a strategy failed that is no choice. Returns whether there was something to say.
-    fn say_reason(&mut self, place: Place<'_>, stand: &Stand<'_>) -> Result<bool, NoMemory> {
+    fn say_reason(
+        &mut self,
+        place: StrategyPlace<'_>,
+        stand: &Stand<'_>,
+    ) -> Result<bool, NoMemory> {
         let Some(node) = place.node else {
             return Ok(false);
         };

@@ -2,7 +2,8 @@
 
 use crate::printing::DEEPEST;
 use strategy_syntax::{
-    Place, PlaceForm, ResolvedForm as Form, ResolvedStrategy, Strategy, StrategyForm as Named,
+    ResolvedForm as Form, ResolvedPattern, ResolvedPatternForm, ResolvedStrategy, Strategy,
+    StrategyForm as Named,
 };
 
 /// A part of a strategy, resolved and with its names.
@@ -164,30 +165,33 @@ fn all_same(parts: &[ResolvedStrategy], others: &[ResolvedStrategy], deep: usize
 }
 
 #[cycle(same_place)]
-fn is_same_place(place: &Place, other: &Place, deep: usize) -> bool {
+fn is_same_place(place: &ResolvedPattern, other: &ResolvedPattern, deep: usize) -> bool {
     let Some(deep) = deep.checked_sub(1) else {
         return false;
     };
     match (place.form(), other.form()) {
-        (PlaceForm::Wildcard, PlaceForm::Wildcard) => true,
-        (PlaceForm::Variable(number), PlaceForm::Variable(more)) => number == more,
-        (PlaceForm::Integer(value), PlaceForm::Integer(more)) => value == more,
-        (PlaceForm::At(number, part), PlaceForm::At(count, more)) => {
+        (ResolvedPatternForm::Wildcard, ResolvedPatternForm::Wildcard) => true,
+        (ResolvedPatternForm::Variable(number), ResolvedPatternForm::Variable(more)) => number
+            == more,
+        (ResolvedPatternForm::Integer(value), ResolvedPatternForm::Integer(more)) => value == more,
+        (ResolvedPatternForm::At(number, part), ResolvedPatternForm::At(count, more)) => {
             number == count && is_same_place(part, more, deep)
         }
-        (PlaceForm::Compound(head, parts), PlaceForm::Compound(another, more)) => {
-            head.equals(another) && all_same_places(parts, more, deep)
-        }
-        (PlaceForm::WithTail(parts, part), PlaceForm::WithTail(others, more))
-        | (PlaceForm::Annotated(part, parts), PlaceForm::Annotated(more, others)) => {
-            is_same_place(part, more, deep) && all_same_places(parts, others, deep)
-        }
+        (
+            ResolvedPatternForm::Compound(head, parts),
+            ResolvedPatternForm::Compound(another, more),
+        ) => { head.equals(another) && all_same_places(parts, more, deep) }
+        (ResolvedPatternForm::WithTail(parts, part), ResolvedPatternForm::WithTail(others, more))
+        | (
+            ResolvedPatternForm::Annotated(part, parts),
+            ResolvedPatternForm::Annotated(more, others),
+        ) => { is_same_place(part, more, deep) && all_same_places(parts, others, deep) }
         _ => false,
     }
 }
 
 #[cycle(same_place)]
-fn all_same_places(places: &[Place], others: &[Place], deep: usize) -> bool {
+fn all_same_places(places: &[ResolvedPattern], others: &[ResolvedPattern], deep: usize) -> bool {
     let mut same = places.len() == others.len();
     for (place, other) in places.iter().zip(others) {
         same = same && is_same_place(place, other, deep);

@@ -1,6 +1,6 @@
 //! What is kept of a run while it goes: the open calls, where the steps went, and where it failed.
 
-use crate::about::{About, Place};
+use crate::about::{About, StrategyPlace};
 use crate::causes::Causes;
 use crate::finding::Node;
 use crate::printing::DEEPEST;
@@ -8,7 +8,8 @@ use prim_core::Meaning;
 use strategy_machine::{Host, Machine, Next, Spot};
 use strategy_run::Look;
 use strategy_syntax::{
-    Pattern, PatternForm, PlaceForm, ResolvedForm as Form, ResolvedStrategy, StrategyForm as Named,
+    Pattern, PatternForm, ResolvedForm as Form, ResolvedPatternForm, ResolvedStrategy,
+    StrategyForm as Named,
 };
 use term_core::{Kind, Name, NoMemory, Term};
 
@@ -59,7 +60,7 @@ pub struct Bound<'t> {
 #[derive(Drop)]
 pub struct Stand<'t> {
     pub strategy: &'t ResolvedStrategy,
-    pub place: Option<Place<'t>>,
+    pub place: Option<StrategyPlace<'t>>,
     pub calls: Vec<Called<'t>>,
     pub spot: Spot,
     pub focus: Term,
@@ -81,7 +82,7 @@ struct Begun<'t> {
 
 /// What is kept of a run.
 #[derive(Drop)]
-pub struct Kept<'t> {
+pub struct RunRecord<'t> {
     about: About<'t>,
     wanted: Wanted,
     turn: u64,
@@ -103,9 +104,9 @@ pub struct Kept<'t> {
     pub size: u64,
 }
 
-impl<'t> Kept<'t> {
+impl<'t> RunRecord<'t> {
     /// What is kept before a run of so many steps.
-    pub fn new(about: About<'t>, wanted: Wanted, steps: u64) -> Result<Kept<'t>, NoMemory> {
+    pub fn new(about: About<'t>, wanted: Wanted, steps: u64) -> Result<RunRecord<'t>, NoMemory> {
         let alloc = about.alloc;
         let mut spent = Vec::new(alloc);
         let mut successes = Vec::new(alloc);
@@ -113,7 +114,7 @@ impl<'t> Kept<'t> {
             spent.push(0)?;
             successes.push(0)?;
         }
-        Ok(Kept {
+        Ok(RunRecord {
             about,
             wanted,
             turn: 0,
@@ -363,14 +364,14 @@ impl<'t> Kept<'t> {
 
 /// Keeps what is wanted of a run of these definitions and primitives.
 #[derive(Drop)]
-pub struct Observer<'t, M: Meaning> {
-    pub host: Host<'t, M>,
-    pub kept: Kept<'t>,
+pub struct Observer<'h, 't, M: Meaning> {
+    pub host: &'h Host<'t, M>,
+    pub kept: RunRecord<'t>,
 }
 
-impl<'t, M: Meaning> Look<'t> for Observer<'t, M> {
+impl<'t, M: Meaning> Look<'t> for Observer<'_, 't, M> {
     fn before_turn(&mut self, machine: &Machine<'t>) -> Result<(), NoMemory> {
-        self.kept.before_turn(&self.host, machine)
+        self.kept.before_turn(self.host, machine)
     }
 
     fn at_end(&mut self, machine: &Machine<'t>) -> Result<(), NoMemory> {
@@ -448,14 +449,15 @@ fn add_variables<'t>(
     bound: &mut Vec<Bound<'t>>,
     machine: &Machine<'_>,
     scope: usize,
-    place: &strategy_syntax::Place,
+    place: &strategy_syntax::ResolvedPattern,
     pattern: &'t Pattern,
     deep: usize,
 ) -> Result<(), NoMemory> {
     let Some(deep) = deep.checked_sub(1) else {
         return Ok(());
     };
-    if let PlaceForm::Variable(variable) | PlaceForm::At(variable, _) = place.form()
+    if let ResolvedPatternForm::Variable(variable)
+    | ResolvedPatternForm::At(variable, _) = place.form()
         && let PatternForm::Variable(name) | PatternForm::At(name, _) = pattern.form()
         && bound.len() < BOUND
         && let Some(cell) = machine.scopes.cell(scope, *variable)
@@ -465,12 +467,12 @@ fn add_variables<'t>(
         bound.push(Bound { name, term })?;
     }
     match (place.form(), pattern.form()) {
-        (PlaceForm::At(_, place), PatternForm::At(_, inner))
-        | (PlaceForm::Annotated(place, _), PatternForm::Annotated(inner, _)) => {
+        (ResolvedPatternForm::At(_, place), PatternForm::At(_, inner))
+        | (ResolvedPatternForm::Annotated(place, _), PatternForm::Annotated(inner, _)) => {
             add_variables(bound, machine, scope, place, inner, deep)?;
         }
-        (PlaceForm::Compound(_, places), PatternForm::Compound(_, parts))
-        | (PlaceForm::WithTail(places, _), PatternForm::WithTail(parts, _)) => {
+        (ResolvedPatternForm::Compound(_, places), PatternForm::Compound(_, parts))
+        | (ResolvedPatternForm::WithTail(places, _), PatternForm::WithTail(parts, _)) => {
             for (place, part) in places.iter().zip(parts) {
                 add_variables(bound, machine, scope, place, part, deep)?;
             }

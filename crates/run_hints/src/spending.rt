@@ -1,7 +1,7 @@
 //! Where the steps of a run went.
 
 use crate::matching::matched;
-use crate::observing::Kept;
+use crate::observing::RunRecord;
 use crate::telling::{Piece, Teller};
 use hint_text::say;
 use term_core::NoMemory;
@@ -19,7 +19,7 @@ const PERIOD: usize = 200;
 
 impl Teller<'_> {
     /// Says how the steps of a run that didn't end were spent, and where it stood.
-    pub fn say_spent(&mut self, kept: &Kept<'_>) -> Result<(), NoMemory> {
+    pub fn say_spent(&mut self, kept: &RunRecord<'_>) -> Result<(), NoMemory> {
         self.say_shares(&kept.spent)?;
         let Some(stand) = &kept.stand else {
             return Ok(());

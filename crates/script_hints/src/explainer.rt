@@ -3,8 +3,8 @@
 use crate::faults::Fault;
 use crate::trees::has_variable;
 use hint_text::{
-    Fill, Hint, Parts, Seen, Text, count_characters, parts_of, place_of, read_modules, say,
-    token_of,
+    Fill, Hint, Parts, ScriptCommand, Text, count_characters, parts_of, place_of, read_modules,
+    say, token_of,
 };
 use session_history::{Limits, Refusal, Timeline};
 use std::alloc::Global;
@@ -15,7 +15,7 @@ use term_core::NoMemory;
 pub struct Explainer<'a, 'm, 't> {
     pub alloc: Global,
     pub hint: Hint,
-    pub seen: Seen<'a>,
+    pub seen: ScriptCommand<'a>,
     pub parts: Parts<'a>,
     /// The modules, in the order of their names, where the explanation needs them.
     pub modules: &'m [Text<'t>],
@@ -30,7 +30,7 @@ pub struct Explainer<'a, 'm, 't> {
 pub fn explain<'a>(
     alloc: Global,
     history: &'a Timeline,
-    seen: &Seen<'a>,
+    seen: &ScriptCommand<'a>,
     refusal: &Refusal,
 ) -> Result<Vec<u8>, NoMemory> {
     let names = history.module_names()?;
@@ -54,7 +54,7 @@ impl<'a, 'm, 't> Explainer<'a, 'm, 't> {
     /// One that has said nothing yet.
     pub fn new(
         alloc: Global,
-        seen: &Seen<'a>,
+        seen: &ScriptCommand<'a>,
         modules: &'m [Text<'t>],
         limits: Limits,
     ) -> Explainer<'a, 'm, 't> {

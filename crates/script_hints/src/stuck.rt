@@ -66,7 +66,7 @@ const SECTIONS: &str = "module signature sorts constructors rules strategies";
 
 /// What is around the token.
 #[derive(Clone, Copy)]
-pub struct Stuck<'a> {
+pub struct StuckToken<'a> {
     /// The number of the token, counted from 0; that of all tokens if the text ends too early.
     pub number: usize,
     /// It and the tokens after it; none if the text ends too early.
@@ -92,7 +92,7 @@ pub fn stuck_of<'a>(
     alloc: Global,
     parts: &Parts<'a>,
     tokens: &'a [Token],
-) -> Result<Stuck<'a>, NoMemory> {
+) -> Result<StuckToken<'a>, NoMemory> {
     let (begin, number) = stuck_token(alloc, parts, tokens.len())?;
     let (before, after) = tokens.split_at(number.min(tokens.len()));
     let (front, item) = before.split_at(begin.min(before.len()));
@@ -106,7 +106,7 @@ pub fn stuck_of<'a>(
     } else {
         Vec::new(alloc)
     };
-    Ok(Stuck {
+    Ok(StuckToken {
         number,
         after,
         open,
@@ -160,7 +160,7 @@ fn has_fact(facts: &[u8], wanted: &str) -> bool {
         .any(|fact| fact == wanted.as_bytes())
 }
 
-impl<'a> Stuck<'a> {
+impl<'a> StuckToken<'a> {
     /// What to write instead, where the token or what is before it looks like a known mistake; else
     /// nothing.
     pub fn advice(&self, alloc: Global) -> Result<&'static str, NoMemory> {

@@ -1,7 +1,7 @@
 //! Texts that are no terms, no strategies, or no modules.
 
 use crate::explainer::Explainer;
-use crate::stuck::{Stuck, is_bracket, stuck_of};
+use crate::stuck::{StuckToken, is_bracket, stuck_of};
 use hint_text::{Fill, begins_with_mark, character_at, say, token_of, tokens_of};
 use strategy_tokens::Token;
 use term_core::NoMemory;
@@ -117,7 +117,7 @@ impl<'a> Explainer<'a, '_, '_> {
     }
 
     // A token that doesn't go on. The open form is named where nothing better is known.
-    fn say_stuck(&mut self, kind: Fill<'_>, stuck: &Stuck<'_>, advice: &str) {
+    fn say_stuck(&mut self, kind: Fill<'_>, stuck: &StuckToken<'_>, advice: &str) {
         let (token, start, at) = self.token(stuck.number);
         let goes_on = Fill::Words(if stuck.number == 0 {
             "begins"
@@ -141,7 +141,7 @@ impl<'a> Explainer<'a, '_, '_> {
     }
 
     // A text that ends too early.
-    fn say_end(&mut self, kind: Fill<'_>, stuck: &Stuck<'_>, advice: &str) {
+    fn say_end(&mut self, kind: Fill<'_>, stuck: &StuckToken<'_>, advice: &str) {
         if stuck.number == 0 {
             say!(self.hint; "the {} is missing", kind);
         } else if let Some(open) = stuck.open {

@@ -2,7 +2,8 @@
 
 use crate::explainer::Explainer;
 use hint_text::{
-    Fill, Hint, Past, Seen, Text, arity_of, declaring, is_sign, parts_of, read_modules, say,
+    Fill, Hint, Past, ScriptCommand, Text, arity_of, declaring, is_sign, parts_of, read_modules,
+    say,
 };
 use script_text::{Framing, Keyword as Command};
 use session_history::Timeline;
@@ -21,7 +22,7 @@ const LOOKED: usize = 16_384;
 pub fn warn<'a>(
     alloc: Global,
     history: &'a Timeline,
-    seen: &Seen<'a>,
+    seen: &ScriptCommand<'a>,
 ) -> Result<Vec<u8>, NoMemory> {
     let parts = parts_of(seen.text);
     if matches!(parts.command, Command::Apply) {
@@ -49,7 +50,7 @@ pub fn warn<'a>(
 fn warn_of_nothing<'a>(
     alloc: Global,
     history: &'a Timeline,
-    seen: &Seen<'a>,
+    seen: &ScriptCommand<'a>,
 ) -> Result<Vec<u8>, NoMemory> {
     let mut explainer = Explainer::new(alloc, seen, &[], history.limits());
     if history.last_is_empty() {

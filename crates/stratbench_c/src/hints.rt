@@ -4,7 +4,7 @@ ghost use Rattle.std.specs.Prelude.{◌≡◌, []};
 ghost use Rattle.stratbench_c.specs.Runs.{AreCopied};
 
 use crate::answers::copy_both;
-use hint_text::{Numbered, Past, Seen};
+use hint_text::{Numbered, Past, ScriptCommand};
 use prim_core::Meaning;
 use run_hints::explain_run;
 use script_core::{Framing, Piece, Watch};
@@ -91,8 +91,8 @@ impl Hints {
     }
 
     // The command that was completed last, as it stands in the script.
-    fn seen<'c>(&'c self, command: Piece<'c>) -> Seen<'c> {
-        Seen {
+    fn seen<'c>(&'c self, command: Piece<'c>) -> ScriptCommand<'c> {
+        ScriptCommand {
             file: None,
             line: self.numbered.line(),
             indent: self.numbered.indent(),
@@ -126,7 +126,7 @@ impl Hints {
         let Ok(command) = command_of(self.alloc, word, name, text) else {
             return;
         };
-        let seen = Seen {
+        let seen = ScriptCommand {
             file: Some(str::from_utf8(name).unwrap_or("text")),
             line: 0,
             indent: 0,
