@@ -1,13 +1,14 @@
 //! What is said on standard error of refused commands and of accepted modules.
 
 use command_line::Load;
-use hint_text::{Numbered, Past, Seen};
+use hint_text::{Numbered, Past, ScriptCommand};
 use prim_core::Meaning;
 use run_hints::{explain_run, profile_run, tree_of};
 use script_core::{Framing, Piece, Settings, Watch};
 use script_hints::{explain, warn, warn_of_end};
 use session_core::{MAX_BUDGET, Refusal, Session};
 use std::alloc::{AllocError, Global};
+use std::cell::Cell;
 use std::io::Write;
 use term_core::Term;
 
@@ -21,6 +22,8 @@ pub struct Explaining<'a, W> {
     wanted: Wanted,
     // The library's text, if it wasn't loaded.
     library: Option<&'a [u8]>,
+    // Whether a group is open, for the prompt.
+    in_group: &'a Cell<bool>,
     numbered: Numbered,
     past: Past,
     // The tree that the next command applies a strategy to, if its steps are wanted.
@@ -44,6 +47,7 @@ impl<'a, W: Write> Explaining<'a, W> {
         settings: Settings,
         wanted: Wanted,
         library: Option<&'a [u8]>,
+        in_group: &'a Cell<bool>,
     ) -> Explaining<'a, W> {
         Explaining {
             alloc,
@@ -51,6 +55,7 @@ impl<'a, W: Write> Explaining<'a, W> {
             settings,
             wanted,
             library,
+            in_group,
             numbered: Numbered::new(alloc, settings.framing),
             past: Past::new(),
             before: None,
@@ -68,8 +73,8 @@ impl<'a, W: Write> Explaining<'a, W> {
     }
 
     // The command as it stands in the script.
-    fn seen<'c>(&'c self, command: Piece<'c>) -> Seen<'c> {
-        Seen {
+    fn seen<'c>(&'c self, command: Piece<'c>) -> ScriptCommand<'c> {
+        ScriptCommand {
             file: None,
             line: self.numbered.line(),
             indent: self.numbered.indent(),
@@ -94,6 +99,7 @@ impl<'a, W: Write> Explaining<'a, W> {
     fn keep(&mut self, command: Piece<'_>, accepted: bool) {
         let line = self.numbered.line();
         self.past = self.past.after(line, text_of(command), accepted);
+        self.in_group.set(self.past.open);
     }
 }
 
@@ -189,8 +195,8 @@ fn command_of(alloc: Global, load: &Load<'_>, text: &[u8]) -> Result<Vec<u8>, Al
     Ok(command)
 }
 
-fn seen_in_file<'a>(load: &'a Load<'_>, command: &'a [u8]) -> Seen<'a> {
-    Seen {
+fn seen_in_file<'a>(load: &'a Load<'_>, command: &'a [u8]) -> ScriptCommand<'a> {
+    ScriptCommand {
         file: Some(load.file()),
         line: 0,
         indent: 0,

@@ -17,7 +17,7 @@ mod writing;
 use clap::Error;
 use clap::error::ErrorKind;
 use command_line::{CommandLine, Load, arguments};
-use dialogue::{Group, Prompting, Watched};
+use dialogue::Prompting;
 use explaining::{Explaining, Wanted, explain_load, warn_of_load};
 use loading::{Loaded, load_text, read_file, with_fault};
 use prim_core::{Meaning, Primitive, Primitives};
@@ -29,6 +29,7 @@ use session_core::{Refusal, Session};
 use session_loading::{library_text, load_library};
 use status::{FileFault, file_status, status};
 use std::alloc::Global;
+use std::cell::Cell;
 use std::env;
 use std::fs::File;
 use std::io::{self, BufWriter, IsTerminal, Read, Write};
@@ -400,7 +401,10 @@ fn run_session<M: Meaning>(
     match line.file {
         None => run_input(rt, session, line, writer),
         Some(path) => match File::open(rt, path) {
-            Ok(file) => run_between(rt, session, line, Counted::new(file), Counted::new(writer)),
+            Ok(file) => {
+                let (source, sink) = (Counted::new(file), Counted::new(writer));
+                run_between(rt, session, line, source, sink, &Cell::new(false))
+            }
             Err(error) => {
                 *reason = Some(error);
                 Err(RunFault::Read)
@@ -418,27 +422,30 @@ fn run_input<M: Meaning, W: Write + Drop>(
 ) -> Result<Summary, RunFault> {
     let source = Counted::new(rt.stdin());
     let sink = Counted::new(writer);
+    let in_group = Cell::new(false);
     let at_terminal = rt.stdin().is_terminal() && rt.stderr().is_terminal();
     if at_terminal && line.interactive {
-        let group = Group::new();
-        let source = Prompting::new(source, rt.stderr(), &group);
-        return run_between(rt, session, line, source, Watched::new(sink, &group));
+        let source = Prompting::new(source, rt.stderr(), &in_group);
+        return run_between(rt, session, line, source, sink, &in_group);
     }
     if at_terminal && line.framing() == Framing::Continued {
         let _ = eprintln!(rt; "stratbench: {LATE}");
     }
-    run_between(rt, session, line, source, sink)
+    run_between(rt, session, line, source, sink, &in_group)
 }
 
 // What is said at a terminal where lines may go on.
 const LATE: &str = "an answer comes with the next command; with -i each line is answered at once";
 
+// Runs the session from the source to the sink. If commands are explained, as they are with
+// prompts, the cell then says whether a group is open.
 fn run_between<M: Meaning, I: Source + Drop, O: Sink + Drop>(
     rt: &HostRuntime,
     session: &mut Session<M>,
     line: &CommandLine<'_>,
     mut source: I,
     mut sink: O,
+    in_group: &Cell<bool>,
 ) -> Result<Summary, RunFault>
     requires source { I.failed source + 1 < 2 ^ 64 }
     requires sink { O.failed sink + 1 < 2 ^ 64 }
@@ -458,7 +465,14 @@ fn run_between<M: Meaning, I: Source + Drop, O: Sink + Drop>(
         } else {
             Some(library_text())
         };
-        let mut watch = Explaining::new(rt.alloc(), rt.stderr(), settings, wanted, unloaded);
+        let mut watch = Explaining::new(
+            rt.alloc(),
+            rt.stderr(),
+            settings,
+            wanted,
+            unloaded,
+            in_group,
+        );
         let outcome = run_watched(
             rt.alloc(),
             session,
