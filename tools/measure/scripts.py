@@ -17,6 +17,7 @@ from measure import BYTES, SHAPES, built_program, heading, instructions
 NAMES = 1000
 TIMES = 1000
 STEPS = 1000000
+LEAVES = 10000
 
 
 def texts(program, empty):
@@ -55,6 +56,19 @@ def commands(program):
         print(f"| `{label}` beside {NAMES:,} names, a time | {(count - without) / TIMES:,.0f} |")
 
 
+def changes(program):
+    """Showing what the last step changed."""
+    tree = "tree t [" + ",".join(["a"] * LEAVES) + "]\n"
+    for what, change, lines in [
+        (f"one leaf of {LEAVES:,}", f"put t /{LEAVES // 2} b\n", 1),
+        (f"each leaf of {LEAVES:,}", "apply t do all(!B())\n", LEAVES),
+    ]:
+        without, _ = instructions(program, [], tree + change)
+        count, answer = instructions(program, [], tree + change + "diff\n")
+        assert f"changes {lines}\n" in answer, answer[:200]
+        print(f"| `diff` after a step that changed {what}, a line | {(count - without) / lines:,.0f} |")
+
+
 def most_memory(program, lines):
     """The most memory that a run holds at a time, in KiB.
 
@@ -85,6 +99,7 @@ def main():
     over_lines(program)
     comments(program, empty)
     commands(program)
+    changes(program)
     steps(program)
 
 

@@ -348,6 +348,20 @@ class Stratbench:
         """
         return "\n".join(self._answer(f"text {name}"))
 
+    def diff(self, name: str | None = None) -> list[str]:
+        """Returns what the last step changed, or in a group what that changed so far: a line for each place where a tree differs from
+        the one before, and for each module that changed. With a name these are the lines of that name.
+
+        >>> bench = Stratbench()
+        >>> bench.tree("t", "f(a,g(b))")
+        >>> bench.diff()
+        ['t (none) => f(a,g(b))']
+        >>> bench.apply("t", "all(all(!1))")
+        >>> bench.diff("t")
+        ['t/1/0 b => 1']
+        """
+        return self._answer("diff" if name is None else f"diff {name}")[1:]
+
     def dump(self) -> str:
         """Returns a script that makes the trees and the modules again.
 
@@ -473,7 +487,7 @@ class Stratbench:
             self._line += command.count("\n") + len(script)
         until = None if self.seconds is None else time.monotonic() + self.seconds
         lines = [self._process.line(until)]
-        if word == "preview" and lines[0].startswith("changes "):
+        if word in ("preview", "diff") and lines[0].startswith("changes "):
             lines += [self._process.line(until) for _ in range(int(lines[0].split(" ")[1]))]
         elif len(script) > 1:
             while not lines[-1].startswith("undo "):

@@ -109,7 +109,7 @@ def second(it, folder):
     it.do(":none", "^there is no :none")
     it.do(":load", "^the form is `:load FILE..`")
     it.do(":load none.str", "none.str")
-    it.do(":help", r"^:reload(?s:.*)\n  dump")
+    it.do(":help", r"^:reload(?s:.*)\n  history +dump")
     it.do(":profile long at /1499 do ?x; !x", r"^3 steps\n    the steps: the command 100 % \(3\)")
     it.do(":profile long within 2 do ?x; !x", "^refused 13 spent")
     it.do(":profile long", "^refused 2 line: `do` and a strategy are missing")

@@ -64,6 +64,9 @@ class Completer:
             yield from self._names("tree")
         elif first in ("text", "unload", "module") and not rest or first == "copy":
             yield from self._names("module" if first != "copy" else "tree")
+        elif first == "diff" and not rest:
+            yield from self._names("tree")
+            yield from self._names("module")
         elif first in ("put", "annotate") and len(rest) == 1:
             yield from self._paths(rest[0], word)
         elif first in ("tree", "put"):

@@ -10,7 +10,8 @@ from typing import Final, Literal, NamedTuple
 FORMS: Final = {
     "tree": "N T", "copy": "N C", "drop": "N", "put": "N P T", "annotate": "N P {..}", "module": "N M", "unload": "N",
     "apply": "N [at P] [within K] do S", "preview": "N [at P] [within K] do S", "undo": "[K]", "redo": "[K]", "begin": "", "commit": "",
-    "abandon": "", "show": "N [at P]", "pretty": "N [at P]", "trees": "", "modules": "", "text": "N", "history": "", "dump": "",
+    "abandon": "", "show": "N [at P]", "pretty": "N [at P]", "diff": "[N]", "trees": "", "modules": "", "text": "N", "history": "",
+    "dump": "",
 }  # fmt: skip
 # Those that end in a text, and so may go on over lines.
 _LONG: Final = ("tree", "put", "annotate", "module", "apply", "preview")
@@ -30,7 +31,7 @@ _CLOSES: Final = {")": "(", "]": "[", "}": "{"}
 # A line that begins a command, whatever is before it: in a text it would be part of no strategy and no term.
 _BEGINS: Final = re.compile(
     r"(?:tree|copy|drop|put|annotate|module|unload|apply|preview|show|pretty|text)[ \t]+[A-Za-z_]|(?:undo|redo)(?:[ \t]+\d+)?[ \t]*$"
-    r"|(?:begin|commit|abandon|trees|modules|history|dump)[ \t]*$|:[a-z]+\b"
+    r"|diff[ \t]+[A-Za-z_][^ \t]*[ \t]*$|(?:begin|commit|abandon|trees|modules|history|dump)[ \t]*$|:[a-z]+\b"
 )
 # What no strategy and no term ends with.
 _GOES_ON: Final = re.compile(r"(?:;|<\+|[-=]>|[<+,=|@?!:]|\b(?:do|where|then|else|if))\s*\Z")
@@ -102,6 +103,11 @@ def commands(text: str) -> list[str]:
     ['module m\\n\\n  rules\\n    R : x -> 1', 'tree t f(\\na)', 'show t']
     >>> commands("module m\\nrules\\n R : x -> 1")
     ['module m\\nrules\\n R : x -> 1']
+
+    A line `diff` may be a strategy of that name, so it is a command only where nothing goes on.
+
+    >>> commands("apply t do\\ndiff\\ndiff\\ndiff t"), commands("apply t do a;\\ndiff\\nshow t")
+    (['apply t do\\ndiff', 'diff', 'diff t'], ['apply t do a;\\ndiff', 'show t'])
 
     Of lines that begin with `#` nothing is left.
 
