@@ -23,7 +23,7 @@ use term_core::{MAX_ROOM, MAX_SIZE};
 pub const DEFAULT_BUDGET: u32 = 100_000;
 
 /// The version of the program.
-pub const VERSION: &str = "1.1.0";
+pub const VERSION: &str = "1.2.0";
 
 // Examples of use, for the end of the help text.
 const EXAMPLES: &str = "Examples:
