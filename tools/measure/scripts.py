@@ -61,7 +61,7 @@ def changes(program):
     tree = "tree t [" + ",".join(["a"] * LEAVES) + "]\n"
     for what, change, lines in [
         (f"one leaf of {LEAVES:,}", f"put t /{LEAVES // 2} b\n", 1),
-        (f"each leaf of {LEAVES:,}", "apply t do all(!B())\n", LEAVES),
+        (f"each leaf of {LEAVES:,}", "apply t do all(!1)\n", LEAVES),
     ]:
         without, _ = instructions(program, [], tree + change)
         count, answer = instructions(program, [], tree + change + "diff\n")
