@@ -2,6 +2,10 @@
 
 use aterm_text::{after_blanks, is_blank};
 use script_text::{Framing, Keyword, split_keyword};
+use session_history::Timeline;
+use std::alloc::Global;
+use term_core::{Label, NoMemory, Term};
+use term_paths::{Path, PathFault, read_number, read_path};
 
 /// The forms of the commands, one a line.
 pub const FORMS: &str = "abandon
@@ -121,6 +125,31 @@ impl<'a> Parts<'a> {
             _ => return,
         }
         self.text = rest;
+    }
+
+    /// The path of the command; the root if it has none.
+    pub fn path_read(&self, alloc: Global) -> Result<Path, NoMemory> {
+        match read_path(alloc, self.path.unwrap_or(&[])) {
+            Ok(path) => Ok(path),
+            Err(PathFault::Line) => Ok(Path::root(alloc)),
+            Err(PathFault::Memory) => Err(NoMemory),
+        }
+    }
+
+    /// The tree of the first name, if there is one.
+    pub fn tree<'h>(&self, alloc: Global, history: &'h Timeline) -> Option<&'h Term> {
+        match Label::read(alloc, self.name) {
+            Ok(name) => history.tree(&name),
+            Err(_) => None,
+        }
+    }
+
+    /// The number of the command; this one if it has none.
+    pub fn number_or(&self, other: u32) -> u64 {
+        match read_number(self.number.unwrap_or(&[])) {
+            Some(number) => number as u64,
+            None => u64::from(other),
+        }
     }
 
     /// Whether the text of the command is a module.

@@ -2,10 +2,12 @@
 //! so these are no `Display`.
 
 use crate::characters::{count_characters, first_characters, last_characters, place_of};
-use aterm_text::print_name;
+use crate::printing::{DEEPEST, add_pattern, add_strategy};
+use aterm_text::{print, print_name};
 use itoa::Buffer;
 use std::alloc::Global;
-use term_core::{Kind, Name, NoMemory};
+use strategy_syntax::{Pattern, Strategy};
+use term_core::{Kind, Name, NoMemory, Term};
 
 /// The most bytes of a command that are quoted in a line.
 pub const QUOTED: usize = 60;
@@ -39,6 +41,10 @@ pub enum Fill<'a> {
     Bytes(&'a [u8]),
     /// Bytes of a command between `` ` ``, at most 60 of them, on one line.
     Quoted(&'a [u8]),
+    /// Their texts, quoted likewise.
+    Pattern(&'a Pattern),
+    Strategy(&'a Strategy),
+    Term(&'a Term),
     /// A name as it is printed.
     Name(&'a Name),
     Number(u64),
@@ -80,6 +86,11 @@ impl Hint {
         } else {
             Ok(self.text)
         }
+    }
+
+    /// Keeps in mind whether something was refused.
+    pub fn keep(&mut self, outcome: Result<(), NoMemory>) {
+        self.refused |= outcome.is_err();
     }
 
     /// Whether nothing was appended.
@@ -128,9 +139,24 @@ impl Hint {
             Fill::Words(words) => self.words(words),
             Fill::Bytes(bytes) => self.bytes(bytes),
             Fill::Quoted(bytes) => self.quote(bytes),
-            Fill::Name(name) => self.refused |= print_name(name, &mut self.text).is_err(),
+            Fill::Pattern(pattern) => {
+                let start = self.open();
+                add_pattern(self, pattern, DEEPEST);
+                self.close(start);
+            }
+            Fill::Strategy(strategy) => {
+                let start = self.open();
+                add_strategy(self, strategy, DEEPEST);
+                self.close(start);
+            }
+            Fill::Term(term) => {
+                let start = self.open();
+                self.refused |= print(term, &mut self.text).is_err();
+                self.close(start);
+            }
+            Fill::Name(name) => self.name(name),
             Fill::Number(number) => self.number("", number),
-            Fill::Integer(value) => self.words(Buffer::new().format(value)),
+            Fill::Integer(value) => self.integer(value),
             Fill::Count(number, name) => self.count(number, name),
             Fill::Line(line) => self.number("line ", line),
             Fill::At(line, column) => {
@@ -144,7 +170,18 @@ impl Hint {
         self.refused |= self.text.extend_from_slice(bytes).is_err();
     }
 
-    fn number(&mut self, before: &str, number: u64) {
+    /// Appends a name as it is printed.
+    pub fn name(&mut self, name: &Name) {
+        self.refused |= print_name(name, &mut self.text).is_err();
+    }
+
+    /// Appends an integer.
+    pub fn integer(&mut self, value: i64) {
+        self.words(Buffer::new().format(value));
+    }
+
+    /// Appends these words and a number.
+    pub fn number(&mut self, before: &str, number: u64) {
         self.words(before);
         self.words(Buffer::new().format(number));
     }
@@ -165,6 +202,26 @@ impl Hint {
         self.words("`");
         self.shown(first_characters(bytes, QUOTED));
         self.words(if bytes.len() > QUOTED { "..`" } else { "`" });
+    }
+
+    // Begins a quotation. Returns the number of bytes before what is quoted.
+    fn open(&mut self) -> usize {
+        self.words("`");
+        self.text.len()
+    }
+
+    // Ends the quotation of what is after so many bytes: of at most 60 bytes, on one line.
+    fn close(&mut self, start: usize) {
+        let quoted = self.text.get(start..).unwrap_or(&[]);
+        let kept = first_characters(quoted, QUOTED).len();
+        let is_cut = kept < quoted.len();
+        self.text.truncate(start.saturating_add(kept));
+        if let Some(quoted) = self.text.get_mut(start..) {
+            for byte in quoted.iter_mut() {
+                *byte = (*byte).max(b' ');
+            }
+        }
+        self.words(if is_cut { "..`" } else { "`" });
     }
 
     // Appends these bytes, with a blank for each control character.

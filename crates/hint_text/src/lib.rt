@@ -7,6 +7,7 @@ mod command;
 mod hint;
 mod modules;
 mod numbered;
+mod printing;
 
 pub use characters::{
     begins_with_mark, character_at, count_characters, first_characters, place_of,
@@ -18,3 +19,4 @@ pub use modules::{
     token_of, tokens_of,
 };
 pub use numbered::Numbered;
+pub use printing::DEEPEST;

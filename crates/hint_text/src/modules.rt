@@ -27,132 +27,92 @@ pub struct Text<'a> {
     pub module: Module,
 }
 
-/// The modules of the history, in the order of their names, as they are once the command is obeyed.
-/// Of those that were there before the tokens are read where they are wanted.
+/// Adds the modules of the history, in the order of their names, as they are once the command is
+/// obeyed. Of those that were there before the tokens are read where they are wanted.
 pub fn read_modules<'a>(
-    alloc: Global,
+    texts: &mut Vec<Text<'a>>,
     history: &'a Timeline,
     names: &'a [Label],
     parts: &Parts<'a>,
     with_tokens: bool,
-) -> Result<Vec<Text<'a>>, NoMemory> {
+) -> Result<(), NoMemory> {
+    let alloc = *texts.allocator();
     let changes = matches!(parts.command, Keyword::Module | Keyword::Unload);
-    let mut texts = Vec::new(alloc);
     let mut place = 0;
     for name in names {
         if !changes || name.bytes() != parts.name {
-            let text = history.module_text(name).unwrap_or(&[]);
-            texts.push(read_module(alloc, name.bytes(), text, with_tokens)?)?;
+            texts.push(read_module(alloc, history, name, with_tokens)?)?;
             if name.bytes() < parts.name {
                 place = texts.len();
             }
         }
     }
     if parts.is_module() {
-        let mut new = read_module(alloc, parts.name, parts.text, true)?;
-        new.is_new = true;
-        texts.insert(place.min(texts.len()), new)?;
+        let new = Text::new(alloc, parts.name, parts.text, true);
+        texts.insert(place.min(texts.len()), new.read(alloc, true)?)?;
     }
-    Ok(texts)
+    Ok(())
 }
 
+/// Reads a module of the history.
 pub fn read_module<'a>(
     alloc: Global,
-    name: &'a [u8],
-    text: &'a [u8],
+    history: &'a Timeline,
+    name: &'a Label,
     with_tokens: bool,
 ) -> Result<Text<'a>, NoMemory> {
-    let wanted = if with_tokens { text } else { &[] };
-    let tokens = tokens_of(alloc, wanted)?;
-    let Ok(definitions) = definition_tokens(alloc, wanted) else {
-        return Err(NoMemory);
-    };
-    let roles = roles_of(alloc, &tokens, &definitions)?;
-    Ok(Text {
-        name,
-        text,
-        is_new: false,
-        tokens,
-        definitions,
-        roles,
-        module: module_of(alloc, text)?,
-    })
-}
-
-fn roles_of(
-    alloc: Global,
-    tokens: &[Token],
-    definitions: &[DefinitionTokens],
-) -> Result<Vec<Role>, NoMemory> {
-    let mut roles = Vec::new(alloc);
-    for place in definitions {
-        for _ in roles.len()..place.first {
-            roles.push(Role::Definition)?;
-        }
-        let inside = tokens.get(place.first..place.end).unwrap_or(&[]);
-        roles.extend_from_slice(&roles_in_definition(alloc, inside)?)?;
-    }
-    Ok(roles)
+    let text = history.module_text(name).unwrap_or(&[]);
+    Text::new(alloc, name.bytes(), text, false).read(alloc, with_tokens)
 }
 
 /// Reads the strategy of a command.
 pub fn read_strategy(alloc: Global, text: &[u8]) -> Result<Text<'_>, NoMemory> {
-    let tokens = tokens_of(alloc, text)?;
-    let mut definitions = Vec::new(alloc);
-    definitions.push(DefinitionTokens {
-        first: 0,
-        end: tokens.len(),
-    })?;
-    let roles = roles_in_strategy(alloc, &tokens)?;
-    Ok(Text {
-        name: &[],
-        text,
-        is_new: true,
-        tokens,
-        definitions,
-        roles,
-        module: module_of(alloc, &[])?,
-    })
+    let mut read = Text::new(alloc, &[], text, true);
+    read.read_strategy(alloc)?;
+    Ok(read)
 }
 
-/// The module that the text is; an empty one if it is none.
-pub fn module_of(alloc: Global, text: &[u8]) -> Result<Module, NoMemory> {
-    match parse_module(alloc, text) {
-        Ok(module) => Ok(module),
-        Err(ParseFault::Memory) => Err(NoMemory),
-        Err(_) => Ok(Module::new(Vec::new(alloc), Vec::new(alloc))),
+impl<'a> Text<'a> {
+    // One in which nothing was read.
+    fn new(alloc: Global, name: &'a [u8], text: &'a [u8], is_new: bool) -> Text<'a> {
+        Text {
+            name,
+            text,
+            is_new,
+            tokens: Vec::new(alloc),
+            definitions: Vec::new(alloc),
+            roles: Vec::new(alloc),
+            module: Module::new(Vec::new(alloc), Vec::new(alloc)),
+        }
     }
-}
 
-/// The tokens of a text; none if it has more than 4,000.
-pub fn tokens_of(alloc: Global, text: &[u8]) -> Result<Vec<Token>, NoMemory> {
-    match read_tokens(alloc, text) {
-        Ok(tokens) => Ok(tokens),
-        Err(TokensFault::Deep) => Ok(Vec::new(alloc)),
-        Err(TokensFault::Memory) => Err(NoMemory),
+    // Reads it as a module, its tokens where they are wanted.
+    fn read(mut self, alloc: Global, with_tokens: bool) -> Result<Text<'a>, NoMemory> {
+        self.read_module(alloc, with_tokens)?;
+        Ok(self)
     }
-}
 
-/// The numbers of strategies and of terms that a definition takes.
-pub fn arity_of(definition: &Definition) -> (u64, u64) {
-    let strategies = definition.strategy_parameters().len() as u64;
-    (strategies, definition.term_parameters().len() as u64)
-}
-
-/// The bytes of a token of a text, and the number of bytes before it.
-pub fn token_of(text: &[u8], number: usize) -> (&[u8], usize) {
-    match token_place(text, number) {
-        Some(place) => (text.get(place.start..place.end).unwrap_or(&[]), place.start),
-        None => (&[], 0),
+    fn read_module(&mut self, alloc: Global, with_tokens: bool) -> Result<(), NoMemory> {
+        self.module = module_of(alloc, self.text)?;
+        if with_tokens {
+            self.tokens = tokens_of(alloc, self.text)?;
+            match definition_tokens(alloc, self.text) {
+                Ok(definitions) => self.definitions = definitions,
+                Err(_) => return Err(NoMemory),
+            }
+            self.roles = roles_of(alloc, &self.tokens, &self.definitions)?;
+        }
+        Ok(())
     }
-}
 
-/// Whether the token of this number is this sign.
-pub fn is_sign(tokens: &[Token], number: usize, sign: Sign) -> bool {
-    tokens.get(number).is_some_and(|token| is_mark(token, sign))
-}
+    fn read_strategy(&mut self, alloc: Global) -> Result<(), NoMemory> {
+        self.tokens = tokens_of(alloc, self.text)?;
+        let end = self.tokens.len();
+        self.definitions.push(DefinitionTokens { first: 0, end })?;
+        self.roles = roles_in_strategy(alloc, &self.tokens)?;
+        Ok(())
+    }
 
-impl Text<'_> {
     /// What the token of this number is used for.
     pub fn role(&self, number: usize) -> Option<Role> {
         self.roles.get(number).copied()
@@ -206,4 +166,57 @@ pub fn declaring<'m, 't>(modules: &'m [Text<'t>], name: &Name, arity: u64) -> Op
         }
     }
     None
+}
+
+fn roles_of(
+    alloc: Global,
+    tokens: &[Token],
+    definitions: &[DefinitionTokens],
+) -> Result<Vec<Role>, NoMemory> {
+    let mut roles = Vec::new(alloc);
+    for place in definitions {
+        for _ in roles.len()..place.first {
+            roles.push(Role::Definition)?;
+        }
+        let inside = tokens.get(place.first..place.end).unwrap_or(&[]);
+        roles.extend_from_slice(&roles_in_definition(alloc, inside)?)?;
+    }
+    Ok(roles)
+}
+
+/// The module that the text is; an empty one if it is none.
+pub fn module_of(alloc: Global, text: &[u8]) -> Result<Module, NoMemory> {
+    match parse_module(alloc, text) {
+        Ok(module) => Ok(module),
+        Err(ParseFault::Memory) => Err(NoMemory),
+        Err(_) => Ok(Module::new(Vec::new(alloc), Vec::new(alloc))),
+    }
+}
+
+/// The tokens of a text; none if it has more than 4,000.
+pub fn tokens_of(alloc: Global, text: &[u8]) -> Result<Vec<Token>, NoMemory> {
+    match read_tokens(alloc, text) {
+        Ok(tokens) => Ok(tokens),
+        Err(TokensFault::Deep) => Ok(Vec::new(alloc)),
+        Err(TokensFault::Memory) => Err(NoMemory),
+    }
+}
+
+/// The numbers of strategies and of terms that a definition takes.
+pub fn arity_of(definition: &Definition) -> (u64, u64) {
+    let strategies = definition.strategy_parameters().len() as u64;
+    (strategies, definition.term_parameters().len() as u64)
+}
+
+/// The bytes of a token of a text, and the number of bytes before it.
+pub fn token_of(text: &[u8], number: usize) -> (&[u8], usize) {
+    match token_place(text, number) {
+        Some(place) => (text.get(place.start..place.end).unwrap_or(&[]), place.start),
+        None => (&[], 0),
+    }
+}
+
+/// Whether the token of this number is this sign.
+pub fn is_sign(tokens: &[Token], number: usize, sign: Sign) -> bool {
+    tokens.get(number).is_some_and(|token| is_mark(token, sign))
 }

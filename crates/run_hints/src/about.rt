@@ -2,8 +2,7 @@
 
 use crate::finding::{Node, are_same};
 use crate::observing::Called;
-use crate::printing::DEEPEST;
-use hint_text::{Text, arity_of, place_of, token_of};
+use hint_text::{DEEPEST, Text, arity_of, place_of, token_of};
 use std::alloc::Global;
 use strategy_check::Program;
 use strategy_parse::definition_tokens;

@@ -3,9 +3,8 @@
 use crate::about::{About, Body, StrategyPlace};
 use crate::matching::{Miss, find_miss, matched, may_match};
 use crate::observing::Called;
-use crate::printing::DEEPEST;
-use crate::telling::{Piece, Teller, kind_of};
-use hint_text::{arity_of, say};
+use crate::telling::{Teller, kind_of};
+use hint_text::{DEEPEST, Fill, arity_of, say};
 use strategy_syntax::{PatternForm, Strategy, StrategyForm};
 use term_core::{Kind, Name, NoMemory, Term};
 
@@ -19,17 +18,27 @@ pub enum Alternative<'a> {
     Body(Body<'a>),
 }
 
-/// The alternatives that failed before this place of a run did, or of which it is the choice: those
-/// around it first.
-pub fn alternatives<'a>(
+impl Alternative<'_> {
+    // The number of the definition that has this body.
+    fn number(self) -> Option<usize> {
+        match self {
+            Alternative::Strategy(_) => None,
+            Alternative::Body(body) => Some(body.number),
+        }
+    }
+}
+
+/// Adds the alternatives that failed before this place of a run did, or of which it is the choice:
+/// those around it first.
+pub fn add_alternatives<'a>(
     about: About<'a>,
+    found: &mut Vec<Alternative<'a>>,
     place: StrategyPlace<'a>,
     calls: &[Called<'_>],
-) -> Result<Vec<Alternative<'a>>, NoMemory> {
-    let mut found = Vec::new(about.alloc);
+) -> Result<(), NoMemory> {
     let mut place = place;
     for _ in 0..=calls.len() {
-        add_around(about, &mut found, place)?;
+        add_around(about, found, place)?;
         let number = place.calls.saturating_sub(1);
         let (Some(call), Some(outer)) = (calls.get(number), calls.get(..number)) else {
             break;
@@ -46,7 +55,7 @@ pub fn alternatives<'a>(
             None => break,
         }
     }
-    Ok(found)
+    Ok(())
 }
 
 // Adds the alternatives of the choice around a place, and the bodies before its own.
@@ -157,84 +166,92 @@ impl Teller<'_> {
         place: StrategyPlace<'_>,
         term: &Term,
         most: usize,
-    ) -> Result<(), NoMemory> {
+    ) {
+        let own = place.body.map(|body| body.number);
         let mut said = 0usize;
-        let mut others = Vec::new(self.about.alloc);
+        let mut others = 0usize;
+        let mut are_bodies = true;
         for alternative in found {
             if !matches_root(self.about, *alternative, term) {
-                others.push(*alternative)?;
+                others = others.saturating_add(1);
+                are_bodies = are_bodies && own.is_some() && own == alternative.number();
             } else if said < most {
-                self.words("\n    ");
+                self.hint.words("\n    ");
                 self.say_alternative(*alternative);
-                self.say_why(*alternative, term)?;
+                self.say_why(*alternative, term);
                 said = said.saturating_add(1);
             }
         }
-        self.say_others(&others, place);
-        Ok(())
-    }
-
-    // Appends a line on alternatives for terms with another root: of bodies of the definition that
-    // has the place only their lines.
-    fn say_others(&mut self, others: &[Alternative<'_>], place: StrategyPlace<'_>) {
-        let own = place.body.map(|body| body.number);
-        let are_bodies = others.iter().all(|other| match other {
-            Alternative::Body(body) => own == Some(body.number),
-            Alternative::Strategy(_) => false,
-        });
-        let mut separator = match place.node {
+        let separator = match place.node {
             _ if !are_bodies => "\n    alternatives for other terms: ",
             Some(_) => "\n    other rules of that name: ",
             None => "\n    rules for other terms: ",
         };
-        for other in others.get(..LISTED).unwrap_or(others) {
-            self.words(separator);
-            match other {
-                Alternative::Body(body) if are_bodies => say!(self; "{}", Piece::Line(*body)),
-                _ => self.say_alternative(*other),
-            }
-            separator = ", ";
+        self.say_others(found, term, are_bodies, separator);
+        if others > LISTED {
+            let more = others.saturating_sub(LISTED) as u64;
+            say!(self.hint; ", and {} more", Fill::Number(more));
         }
-        if others.len() > LISTED {
-            let more = others.len().saturating_sub(LISTED) as u64;
-            say!(self; ", and {} more", Piece::Number(more));
+    }
+
+    // Appends the first alternatives for terms with another root: of bodies only their lines.
+    fn say_others(
+        &mut self,
+        found: &[Alternative<'_>],
+        term: &Term,
+        are_bodies: bool,
+        separator: &'static str,
+    ) {
+        let mut separator = separator;
+        let mut said = 0usize;
+        for other in found {
+            if said < LISTED && !matches_root(self.about, *other, term) {
+                self.hint.words(separator);
+                match other {
+                    Alternative::Body(body) if are_bodies => {
+                        say!(self.hint; "{}", Fill::Line(body.line()));
+                    }
+                    _ => self.say_alternative(*other),
+                }
+                separator = ", ";
+                said = said.saturating_add(1);
+            }
         }
     }
 
     // The text of a strategy, or the name of a body with its line.
     fn say_alternative(&mut self, alternative: Alternative<'_>) {
         match alternative {
-            Alternative::Strategy(strategy) => say!(self; "{}", Piece::Strategy(strategy)),
+            Alternative::Strategy(strategy) => say!(self.hint; "{}", Fill::Strategy(strategy)),
             Alternative::Body(body) => {
                 self.say_definition(body.number);
-                say!(self; " of {}", Piece::Line(body));
+                say!(self.hint; " of {}", Fill::Line(body.line()));
             }
         }
     }
 
     // Appends why an alternative failed whose root matches.
-    fn say_why(&mut self, alternative: Alternative<'_>, term: &Term) -> Result<(), NoMemory> {
+    fn say_why(&mut self, alternative: Alternative<'_>, term: &Term) {
         let StrategyForm::Match(pattern) = first_form(self.about, alternative, term).form() else {
-            self.words(" fails");
-            return Ok(());
+            self.hint.words(" fails");
+            return;
         };
-        let mut bindings = Vec::new(self.about.alloc);
-        match find_miss(&mut bindings, pattern, term)? {
-            Some(miss) => self.say_miss(miss),
-            None => self.words(" matches, and fails after that"),
+        match find_miss(self.about.alloc, &[], pattern, term) {
+            Ok(Some(miss)) => self.say_miss(miss),
+            Ok(None) => self.hint.words(" matches, and fails after that"),
+            Err(NoMemory) => self.hint.keep(Err(NoMemory)),
         }
-        Ok(())
     }
 
     /// Appends what a pattern takes in place of what is there.
     pub fn say_miss(&mut self, miss: Miss<'_>) {
-        let (pattern, term) = (Piece::Pattern(miss.pattern), Piece::Term(miss.term));
+        let (pattern, term) = (Fill::Pattern(miss.pattern), Fill::Term(miss.term));
         if let Some(bound) = miss.bound {
-            say!(self; " has {} for {} already, and here is {}", pattern, Piece::Term(bound), term);
+            say!(self.hint; " has {} for {} already, and here is {}", pattern, Fill::Term(bound), term);
         } else if !miss.is_root {
-            say!(self; " has {}, and there is {}", pattern, term);
+            say!(self.hint; " has {}, and there is {}", pattern, term);
         } else {
-            self.words(" takes ");
+            self.hint.words(" takes ");
             match miss.pattern.form() {
                 PatternForm::Integer(value) => self.say_root(Kind::Integer(*value), 0),
                 PatternForm::Compound(head, parts) => self.say_root(kind_of(head), parts.len()),
@@ -246,6 +263,6 @@ impl Teller<'_> {
 
     /// Appends that it is a list of at least so many terms.
     pub fn say_list(&mut self, count: usize) {
-        say!(self; "a list of at least {}", Piece::Count(count as u64, "term"));
+        say!(self.hint; "a list of at least {}", Fill::Count(count as u64, "term"));
     }
 }

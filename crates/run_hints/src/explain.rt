@@ -3,17 +3,26 @@
 use crate::about::{About, bodies_of};
 use crate::observing::{Observer, RunRecord, Wanted};
 use crate::spending::sum;
-use crate::telling::{Piece, Teller};
-use hint_text::{ScriptCommand, Text, parts_of, read_modules, say};
-use prim_core::Meaning;
-use session_core::{Refusal, Session};
+use crate::telling::Teller;
+use hint_text::{Fill, Hint, ScriptCommand, Text, parts_of, read_modules, say};
+use prim_core::{Meaning, Primitives};
+use session_history::{Refusal, Timeline};
 use std::alloc::Global;
-use strategy_check::resolve;
+use strategy_check::{Program, resolve};
 use strategy_machine::Host;
 use strategy_parse::parse_strategy;
 use strategy_run::plan_patch_seen;
-use term_core::{Label, MAX_HEIGHT, NoMemory, Term};
-use term_paths::{Path, at, read_number, read_path};
+use term_core::{MAX_HEIGHT, NoMemory, Term};
+use term_paths::at;
+
+/// What a session runs commands with.
+#[derive(Drop)]
+pub struct Ground<'a, M: Meaning> {
+    pub history: &'a Timeline,
+    /// The program of the modules that were checked last, if it is kept.
+    pub program: Option<&'a Program>,
+    pub primitives: &'a Primitives<M>,
+}
 
 /// At most eight lines on why the run of a refused command ended as it did, each with a line feed
 /// before it; nothing if the refusal is none of a run. The command is run again, in its session,
@@ -22,7 +31,7 @@ use term_paths::{Path, at, read_number, read_path};
 /// Errors: `NoMemory` if memory can't grow.
 pub fn explain_run<'a, M: Meaning>(
     alloc: Global,
-    session: &'a Session<M>,
+    ground: &Ground<'a, M>,
     seen: &ScriptCommand<'a>,
     refusal: &Refusal,
 ) -> Result<Vec<u8>, NoMemory> {
@@ -32,8 +41,8 @@ pub fn explain_run<'a, M: Meaning>(
         Refusal::Big => Wanted::End,
         _ => return Ok(Vec::new(alloc)),
     };
-    match tree_of(alloc, session, seen) {
-        Some(tree) => look_at(alloc, session, seen, tree, wanted),
+    match tree_of(alloc, ground.history, seen) {
+        Some(tree) => look_at(alloc, ground, seen, tree, wanted),
         None => Ok(Vec::new(alloc)),
     }
 }
@@ -44,48 +53,43 @@ pub fn explain_run<'a, M: Meaning>(
 /// Errors: `NoMemory` if memory can't grow.
 pub fn profile_run<'a, M: Meaning>(
     alloc: Global,
-    session: &'a Session<M>,
+    ground: &Ground<'a, M>,
     seen: &ScriptCommand<'a>,
     tree: &'a Term,
 ) -> Result<Vec<u8>, NoMemory> {
-    look_at(alloc, session, seen, tree, Wanted::Steps)
+    look_at(alloc, ground, seen, tree, Wanted::Steps)
 }
 
 /// The tree that the command applies a strategy to, if it does.
-pub fn tree_of<'a, M: Meaning>(
+pub fn tree_of<'a>(
     alloc: Global,
-    session: &'a Session<M>,
+    history: &'a Timeline,
     seen: &ScriptCommand<'_>,
 ) -> Option<&'a Term> {
     let parts = parts_of(seen.text);
-    if !parts.is_strategy() {
-        return None;
-    }
-    match Label::read(alloc, parts.name) {
-        Ok(name) => session.tree(&name),
-        Err(_) => None,
+    if parts.is_strategy() {
+        parts.tree(alloc, history)
+    } else {
+        None
     }
 }
 
 // Runs the command on the tree, and says what is wanted.
 fn look_at<'a, M: Meaning>(
     alloc: Global,
-    session: &'a Session<M>,
+    ground: &Ground<'a, M>,
     seen: &ScriptCommand<'a>,
     tree: &'a Term,
     wanted: Wanted,
 ) -> Result<Vec<u8>, NoMemory> {
     let parts = parts_of(seen.text);
-    let path = match read_path(alloc, parts.path.unwrap_or(&[])) {
-        Ok(path) => path,
-        Err(_) => Path::root(alloc),
-    };
-    let (Some(term), Some(program)) = (at(tree, &path), session.kept_program()) else {
+    let path = parts.path_read(alloc)?;
+    let (Some(term), Some(program)) = (at(tree, &path), ground.program) else {
         return Ok(Vec::new(alloc));
     };
     // Each of these is held where there is one way out: its drop is proved at each.
     match parse_strategy(alloc, parts.text) {
-        Ok(named) => match resolve(alloc, program, session.primitives(), &named) {
+        Ok(named) => match resolve(alloc, program, ground.primitives, &named) {
             Ok(resolved) => {
                 let about = About {
                     alloc,
@@ -96,7 +100,7 @@ fn look_at<'a, M: Meaning>(
                     term,
                     path: path.parts(),
                 };
-                look_at_run(session, seen, about, wanted)
+                look_at_run(ground, seen, about, wanted)
             }
             Err(_) => Ok(Vec::new(alloc)),
         },
@@ -105,94 +109,102 @@ fn look_at<'a, M: Meaning>(
 }
 
 fn look_at_run<M: Meaning>(
-    session: &Session<M>,
+    ground: &Ground<'_, M>,
     seen: &ScriptCommand<'_>,
     about: About<'_>,
     wanted: Wanted,
 ) -> Result<Vec<u8>, NoMemory> {
-    let history = session.timeline();
+    let history = ground.history;
     let names = history.module_names()?;
-    let modules = read_modules(about.alloc, history, &names, &parts_of(seen.text), false)?;
-    tell(session, seen, about, &modules, wanted)
+    let mut modules = Vec::new(about.alloc);
+    match read_modules(&mut modules, history, &names, &parts_of(seen.text), false) {
+        Ok(()) => tell(ground, seen, about, &modules, wanted),
+        Err(NoMemory) => Err(NoMemory),
+    }
 }
 
 fn tell<'a, M: Meaning>(
-    session: &Session<M>,
+    ground: &Ground<'_, M>,
     seen: &ScriptCommand<'_>,
     about: About<'a>,
     modules: &'a [Text<'a>],
     wanted: Wanted,
 ) -> Result<Vec<u8>, NoMemory> {
     let bodies = bodies_of(about.alloc, modules)?;
-    let mut teller = Teller::new(About {
-        bodies: &bodies,
-        ..about
-    });
-    let said = tell_run(&mut teller, session, seen, wanted);
-    let text = teller.into_text();
-    said.and(text)
+    let mut teller = Teller {
+        about: About {
+            bodies: &bodies,
+            ..about
+        },
+        hint: Hint::new(about.alloc),
+    };
+    let told = tell_run(&mut teller, ground, seen, wanted);
+    teller.hint.keep(told);
+    teller.hint.into_text()
 }
 
 fn tell_run<M: Meaning>(
     teller: &mut Teller<'_>,
-    session: &Session<M>,
+    ground: &Ground<'_, M>,
     seen: &ScriptCommand<'_>,
     wanted: Wanted,
 ) -> Result<(), NoMemory> {
-    let kept = watch(session, seen, teller.about, wanted)?;
-    match wanted {
-        Wanted::Spending => teller.say_spent(&kept),
-        Wanted::Steps => {
-            let steps = Piece::Count(sum(&kept.spent), "step");
-            say!(teller; "line {}: {}", Piece::Number(seen.line), steps);
-            teller.say_shares(&kept.spent)
+    let kept = watch(ground, seen, teller.about, wanted)?;
+    tell_kept(teller, ground, seen, wanted, &kept)
+}
+
+fn tell_kept<M: Meaning>(
+    teller: &mut Teller<'_>,
+    ground: &Ground<'_, M>,
+    seen: &ScriptCommand<'_>,
+    wanted: Wanted,
+    kept: &RunRecord<'_>,
+) -> Result<(), NoMemory> {
+    match (wanted, &kept.stand, kept.causes.greatest()) {
+        (Wanted::Spending, _, _) => teller.say_spent(kept),
+        (Wanted::Steps, _, _) => {
+            let steps = Fill::Count(sum(&kept.spent), "step");
+            say!(teller.hint; "line {}: {}", Fill::Number(seen.line), steps);
+            teller.say_shares(&kept.spent);
         }
-        _ => match (&kept.stand, kept.causes.greatest()) {
-            (None, _) => Ok(()),
-            (Some(stand), _) if matches!(wanted, Wanted::End) => {
-                teller.say_big(stand);
-                Ok(())
-            }
-            (Some(stand), None) => teller.say_failure(stand, None, 0),
-            (Some(stand), Some(cause)) => {
-                let earlier = watch(session, seen, teller.about, Wanted::FailureIn(cause.turn))?;
-                teller.say_failure(stand, earlier.stand.as_ref(), cause.steps)
-            }
-        },
+        (_, None, _) => {}
+        (Wanted::End, Some(stand), _) => teller.say_big(stand),
+        (_, Some(stand), None) => teller.say_failure(stand, None, 0),
+        (_, Some(stand), Some(cause)) => {
+            let earlier = watch(ground, seen, teller.about, Wanted::FailureIn(cause.turn))?;
+            teller.say_failure(stand, earlier.stand.as_ref(), cause.steps);
+        }
     }
+    Ok(())
 }
 
 // Runs it again, and returns what is kept of that.
 fn watch<'t, M: Meaning>(
-    session: &'t Session<M>,
+    ground: &Ground<'t, M>,
     seen: &ScriptCommand<'_>,
     about: About<'t>,
     wanted: Wanted,
 ) -> Result<RunRecord<'t>, NoMemory> {
-    let steps = match read_number(parts_of(seen.text).number.unwrap_or(&[])) {
-        Some(budget) => budget as u64,
-        None => u64::from(seen.budget),
-    };
-    let (program, primitives, term) = (about.program, session.primitives(), about.term);
-    let definitions = program.definitions();
-    let room = session.limits().max_terms;
+    let steps = parts_of(seen.text).number_or(seen.budget);
     let host = Host {
-        definitions,
-        primitives,
-        room,
+        definitions: about.program.definitions(),
+        primitives: ground.primitives,
+        room: ground.history.limits().max_terms,
     };
     let kept = RunRecord::new(about, wanted, steps)?;
     let mut observer = Observer { host: &host, kept };
-    let level = about.path.len() as u64;
+    let (alloc, term, level) = (about.alloc, about.term, about.path.len() as u64);
+    let mut has_run = true;
     if let Some(most) = MAX_HEIGHT.checked_sub(level)
         && term.height() <= most
     {
-        let (alloc, strategy, look) = (about.alloc, about.resolved, &mut observer);
-        let ended = plan_patch_seen(alloc, &host, term, level, strategy, steps, look);
-        if ended.is_err() && !observer.kept.is_complete() {
-            return Err(NoMemory);
-        }
+        let (strategy, look) = (about.resolved, &mut observer);
+        has_run = plan_patch_seen(alloc, &host, term, level, strategy, steps, look).is_ok();
     }
     let Observer { kept, .. } = observer;
-    Ok(kept)
+    if has_run || kept.is_complete() {
+        Ok(kept)
+    } else {
+        Err(NoMemory)
+    }
 }

@@ -1,12 +1,12 @@
 //! Why a run failed, and where it met a term that is too big.
 
 use crate::about::StrategyPlace;
-use crate::alternatives::alternatives;
+use crate::alternatives::add_alternatives;
 use crate::finding::are_same;
-use crate::matching::{Binding, find_miss, matched};
+use crate::matching::{find_miss, matched};
 use crate::observing::{Bound, Stand};
-use crate::telling::{Piece, Teller, kind_of};
-use hint_text::say;
+use crate::telling::{Teller, kind_of};
+use hint_text::{Fill, say};
 use strategy_syntax::{Pattern, Strategy, StrategyForm};
 use term_core::{Kind, NoMemory};
 use term_paths::at_parts;
@@ -17,144 +17,137 @@ const SHOWN: usize = 3;
 impl Teller<'_> {
     /// Says what failed, where, and why; and if an alternative before it took more than a few
     /// steps, what failed there, and how many steps it took.
-    pub fn say_failure(
-        &mut self,
-        failure: &Stand<'_>,
-        cause: Option<&Stand<'_>>,
-        steps: u64,
-    ) -> Result<(), NoMemory> {
+    pub fn say_failure(&mut self, failure: &Stand<'_>, cause: Option<&Stand<'_>>, steps: u64) {
         match cause {
             Some(cause) if !is_repeated(cause, failure) => {
-                self.say_failed(failure, "\n    ", false)?;
-                let steps = Piece::Count(steps, "step");
-                say!(self; "\n    tried before that, and got furthest, in {}: ", steps);
-                self.say_failed(cause, "", false)
+                self.say_failed(failure, "\n    ", false);
+                let steps = Fill::Count(steps, "step");
+                say!(self.hint; "\n    tried before that, and got furthest, in {}: ", steps);
+                self.say_failed(cause, "", false);
             }
             _ => self.say_failed(failure, "\n    ", true),
         }
     }
 
-    fn say_failed(
-        &mut self,
-        stand: &Stand<'_>,
-        before: &'static str,
-        with_alternatives: bool,
-    ) -> Result<(), NoMemory> {
+    fn say_failed(&mut self, stand: &Stand<'_>, before: &'static str, with_alternatives: bool) {
         if let Some(place) = stand.place {
-            self.words(before);
+            self.hint.words(before);
             if stand.is_rest {
                 self.say_stand(place, stand, "gives");
-                self.words("\n    that is no list, and is given for the rest of one");
+                self.hint
+                    .words("\n    that is no list, and is given for the rest of one");
             } else {
                 self.say_stand(place, stand, "fails on");
-                let told = self.say_reason(place, stand)?;
+                let told = self.say_reason(place, stand);
                 if with_alternatives {
-                    let found = alternatives(self.about, place, &stand.calls)?;
-                    self.say_alternatives(&found, place, &stand.focus, if told { 2 } else { 3 })?;
+                    self.say_all_alternatives(place, stand, if told { 2 } else { 3 });
                 }
             }
         }
         self.say_calls(stand);
-        Ok(())
+    }
+
+    fn say_all_alternatives(&mut self, place: StrategyPlace<'_>, stand: &Stand<'_>, most: usize) {
+        let mut found = Vec::new(self.about.alloc);
+        let added = add_alternatives(self.about, &mut found, place, &stand.calls);
+        self.hint.keep(added);
+        self.say_alternatives(&found, place, &stand.focus, most);
     }
 
     /// Says which strategy made a term that is too big, and where.
     pub fn say_big(&mut self, stand: &Stand<'_>) {
         if let Some(place) = stand.place {
-            self.words("\n    ");
+            self.hint.words("\n    ");
             self.say_stand(place, stand, "makes it from");
-            let size = Piece::Count(stand.focus.size(), "term");
-            say!(self; "\n    what it makes it from has {} in it", size);
+            let size = Fill::Count(stand.focus.size(), "term");
+            say!(self.hint; "\n    what it makes it from has {} in it", size);
         }
         self.say_calls(stand);
     }
 
     // The strategy, what it did with which term, and where both are.
     fn say_stand(&mut self, place: StrategyPlace<'_>, stand: &Stand<'_>, did: &'static str) {
-        let (did, term) = (Piece::Words(did), Piece::Term(&stand.focus));
+        let (did, term) = (Fill::Words(did), Fill::Term(&stand.focus));
         match place.node {
             Some(node) => {
                 let begun = begun_first(node.guard.unwrap_or(node.named));
-                say!(self; "{} {} {}", Piece::Strategy(begun), did, term);
+                say!(self.hint; "{} {} {}", Fill::Strategy(begun), did, term);
             }
-            None => say!(self; "each body {} {}", did, term),
+            None => say!(self.hint; "each body {} {}", did, term),
         }
         // A term that was built has another place in the tree, or none.
         let is_there = match at_parts(self.about.term, &stand.spot.path) {
             Some(term) => stand.spot.before > 0 || term.equals(&stand.focus),
             None => false,
         };
-        self.words(if is_there { " at " } else { ", made at " });
+        self.hint
+            .words(if is_there { " at " } else { ", made at " });
         self.say_spot(&stand.spot);
         let Some(body) = place.body else {
-            self.words(", in the strategy of the command");
+            self.hint.words(", in the strategy of the command");
             return;
         };
-        self.words(", in ");
+        self.hint.words(", in ");
         self.say_definition(body.number);
-        let module = Piece::Quoted(body.module.name);
-        say!(self; " of the module {}, {} of its text", module, Piece::Line(body));
+        let module = Fill::Quoted(body.module.name);
+        say!(self.hint; " of the module {}, {} of its text", module, Fill::Line(body.line()));
     }
 
     // Says why a strategy failed that is no choice. Returns whether there was something to say.
-    fn say_reason(
-        &mut self,
-        place: StrategyPlace<'_>,
-        stand: &Stand<'_>,
-    ) -> Result<bool, NoMemory> {
+    fn say_reason(&mut self, place: StrategyPlace<'_>, stand: &Stand<'_>) -> bool {
         let Some(node) = place.node else {
-            return Ok(false);
+            return false;
         };
         if let Some(guard) = node.guard
             && let StrategyForm::Guard(parts) = guard.form()
         {
-            say!(self; "\n    {} succeeds", Piece::Strategy(&parts.0));
-            return Ok(true);
+            say!(self.hint; "\n    {} succeeds", Fill::Strategy(&parts.0));
+            return true;
         }
         if let Some(pattern) = matched(node.named) {
             return self.say_mismatch(pattern, stand);
         }
         match node.named.form() {
             StrategyForm::TailCongruence(parts, _) => {
-                self.words("\n    it takes ");
+                self.hint.words("\n    it takes ");
                 self.say_list(parts.len());
             }
             StrategyForm::Congruence(head, parts) => {
-                self.words("\n    it takes ");
+                self.hint.words("\n    it takes ");
                 self.say_root(kind_of(head), parts.len());
             }
             StrategyForm::Use(name, parts, _) => {
-                self.words("\n    it takes ");
+                self.hint.words("\n    it takes ");
                 self.say_root(Kind::Application(name), parts.len());
             }
             _ => {
                 self.say_bound(&stand.bound);
-                return Ok(!stand.bound.is_empty());
+                return !stand.bound.is_empty();
             }
         }
-        Ok(true)
+        true
     }
 
     // Says where the pattern doesn't match the term. Returns whether there is such a place.
-    fn say_mismatch(&mut self, pattern: &Pattern, stand: &Stand<'_>) -> Result<bool, NoMemory> {
-        let mut bindings = Vec::new(self.about.alloc);
-        for Bound { name, term } in &stand.bound {
-            bindings.push(Binding { name, term })?;
+    fn say_mismatch(&mut self, pattern: &Pattern, stand: &Stand<'_>) -> bool {
+        match find_miss(self.about.alloc, &stand.bound, pattern, &stand.focus) {
+            Ok(Some(miss)) => {
+                say!(self.hint; "\n    {}", Fill::Pattern(pattern));
+                self.say_miss(miss);
+                return true;
+            }
+            Ok(None) => {}
+            Err(NoMemory) => self.hint.keep(Err(NoMemory)),
         }
-        let miss = find_miss(&mut bindings, pattern, &stand.focus)?;
-        if let Some(miss) = miss {
-            say!(self; "\n    {}", Piece::Pattern(pattern));
-            self.say_miss(miss);
-        }
-        Ok(miss.is_some())
+        false
     }
 
     // Says what the first variables are bound to.
     fn say_bound(&mut self, bound: &[Bound<'_>]) {
         let mut separator = "\n    ";
         for it in bound.get(..SHOWN).unwrap_or(bound) {
-            let name = Piece::Quoted(it.name.bytes());
-            say!(self; "{}{} is {}", Piece::Words(separator), name, Piece::Term(&it.term));
+            let name = Fill::Quoted(it.name.bytes());
+            say!(self.hint; "{}{} is {}", Fill::Words(separator), name, Fill::Term(&it.term));
             separator = ", ";
         }
     }

@@ -1,6 +1,6 @@
 //! Strategies with their names, found by the resolved ones that a run begins.
 
-use crate::printing::DEEPEST;
+use hint_text::DEEPEST;
 use strategy_syntax::{
     ResolvedForm as Form, ResolvedPattern, ResolvedPatternForm, ResolvedStrategy, Strategy,
     StrategyForm as Named,

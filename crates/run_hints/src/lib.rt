@@ -9,8 +9,7 @@ mod failing;
 mod finding;
 mod matching;
 mod observing;
-mod printing;
 mod spending;
 mod telling;
 
-pub use explain::{explain_run, profile_run, tree_of};
+pub use explain::{Ground, explain_run, profile_run, tree_of};

@@ -1,6 +1,7 @@
 //! What a strategy matches first, and where a pattern doesn't match a term.
 
-use crate::printing::DEEPEST;
+use crate::observing::Bound;
+use hint_text::DEEPEST;
 use std::alloc::Global;
 use strategy_syntax::{Pattern, PatternForm, Strategy, StrategyForm};
 use term_core::{Kind, Name, NoMemory, Term};
@@ -16,11 +17,11 @@ pub struct Miss<'a> {
     pub bound: Option<&'a Term>,
 }
 
-/// A variable with its term.
+// A variable with its term.
 #[derive(Clone, Copy)]
-pub struct Binding<'a> {
-    pub name: &'a Name,
-    pub term: &'a Term,
+struct Binding<'a> {
+    name: &'a Name,
+    term: &'a Term,
 }
 
 /// The pattern that a strategy matches before anything else.
@@ -59,10 +60,11 @@ pub fn may_match(pattern: &Pattern, term: &Term) -> bool {
     true
 }
 
-/// The first part of the pattern that doesn't match. Annotations and the rests of lists aren't
-/// looked at. The bindings are those before the match, and then those that it made.
+/// The first part of the pattern that doesn't match where these variables are bound before.
+/// Annotations and the rests of lists aren't looked at.
 pub fn find_miss<'a>(
-    bindings: &mut Vec<Binding<'a>>,
+    alloc: Global,
+    bound: &'a [Bound<'_>],
     pattern: &'a Pattern,
     term: &'a Term,
 ) -> Result<Option<Miss<'a>>, NoMemory> {
@@ -72,7 +74,11 @@ pub fn find_miss<'a>(
         is_root: true,
         bound: None,
     };
-    find(bindings, root, DEEPEST)
+    let mut bindings = Vec::new(alloc);
+    for Bound { name, term } in bound {
+        bindings.push(Binding { name, term })?;
+    }
+    find(&mut bindings, root, DEEPEST)
 }
 
 // Whether the pattern of this matches its term, or what doesn't match in it.

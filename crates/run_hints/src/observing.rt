@@ -3,7 +3,7 @@
 use crate::about::{About, StrategyPlace};
 use crate::causes::Causes;
 use crate::finding::Node;
-use crate::printing::DEEPEST;
+use hint_text::DEEPEST;
 use prim_core::Meaning;
 use strategy_machine::{Host, Machine, Next, Spot};
 use strategy_run::Look;
@@ -109,12 +109,9 @@ impl<'t> RunRecord<'t> {
     pub fn new(about: About<'t>, wanted: Wanted, steps: u64) -> Result<RunRecord<'t>, NoMemory> {
         let alloc = about.alloc;
         let mut spent = Vec::new(alloc);
-        let mut successes = Vec::new(alloc);
-        for _ in 0..=about.program.definitions().len() {
-            spent.push(0)?;
-            successes.push(0)?;
-        }
+        spent.resize(about.program.definitions().len().saturating_add(1), 0)?;
         Ok(RunRecord {
+            successes: Vec::from_slice(alloc, &spent)?,
             about,
             wanted,
             turn: 0,
@@ -123,7 +120,6 @@ impl<'t> RunRecord<'t> {
             succeeded: None,
             left: steps,
             spent,
-            successes,
             recent: Vec::new(alloc),
             causes: Causes::new(alloc),
             stand: None,
@@ -183,10 +179,8 @@ impl<'t> RunRecord<'t> {
             Wanted::End => {}
         }
         if let Some(begun) = begun {
-            let stand = self.stand(machine, begun, false)?;
             let around = machine.frames.size_around(self.about.alloc)?;
-            self.size = around.saturating_add(stand.focus.size());
-            self.stand = Some(stand);
+            self.size = around.saturating_add(self.keep_stand(machine, begun, false)?);
         }
         Ok(())
     }
@@ -320,8 +314,7 @@ impl<'t> RunRecord<'t> {
             _ => false,
         };
         if is_wanted {
-            let stand = self.stand(machine, last, begun.is_none())?;
-            self.stand = Some(stand);
+            let _size = self.keep_stand(machine, last, begun.is_none())?;
         }
         if self.is_complete() {
             // nothing more is wanted, and this ends the run
@@ -335,7 +328,19 @@ impl<'t> RunRecord<'t> {
         matches!(self.wanted, Wanted::FailureIn(_)) && self.stand.is_some()
     }
 
-    // Where the machine stands after it has begun this.
+    // Keeps where the machine stands after it has begun this. Returns the size of the focus.
+    fn keep_stand(
+        &mut self,
+        machine: &Machine<'t>,
+        begun: Begun<'t>,
+        is_rest: bool,
+    ) -> Result<u64, NoMemory> {
+        let stand = self.stand(machine, begun, is_rest)?;
+        let size = stand.focus.size();
+        self.stand = Some(stand);
+        Ok(size)
+    }
+
     fn stand(
         &self,
         machine: &Machine<'t>,
@@ -343,22 +348,21 @@ impl<'t> RunRecord<'t> {
         is_rest: bool,
     ) -> Result<Stand<'t>, NoMemory> {
         let alloc = self.about.alloc;
-        let place = self.about.find(&self.calls, begun.strategy);
-        let mut bound = Vec::new(alloc);
-        if let Some(place) = place
-            && let Some(node) = place.node
-        {
-            add_bound(&mut bound, machine, begun.scope, node)?;
-        }
-        Ok(Stand {
+        let mut stand = Stand {
             strategy: begun.strategy,
-            place,
+            place: self.about.find(&self.calls, begun.strategy),
             calls: Vec::from_slice(alloc, &self.calls)?,
             spot: machine.frames.spot(alloc)?,
             focus: machine.part.value()?.to_term(alloc)?,
-            bound,
+            bound: Vec::new(alloc),
             is_rest,
-        })
+        };
+        if let Some(place) = stand.place
+            && let Some(node) = place.node
+        {
+            add_bound(&mut stand.bound, machine, begun.scope, node)?;
+        }
+        Ok(stand)
     }
 }
 

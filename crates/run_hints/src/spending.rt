@@ -2,8 +2,8 @@
 
 use crate::matching::matched;
 use crate::observing::RunRecord;
-use crate::telling::{Piece, Teller};
-use hint_text::say;
+use crate::telling::Teller;
+use hint_text::{Fill, say};
 use term_core::NoMemory;
 
 // How many definitions are listed with their shares, how many of these are the user's, and how many
@@ -19,48 +19,53 @@ const PERIOD: usize = 200;
 
 impl Teller<'_> {
     /// Says how the steps of a run that didn't end were spent, and where it stood.
-    pub fn say_spent(&mut self, kept: &RunRecord<'_>) -> Result<(), NoMemory> {
-        self.say_shares(&kept.spent)?;
+    pub fn say_spent(&mut self, kept: &RunRecord<'_>) {
+        self.say_shares(&kept.spent);
         let Some(stand) = &kept.stand else {
-            return Ok(());
+            return;
         };
-        self.words("\n    it stopped at ");
+        self.hint.words("\n    it stopped at ");
         self.say_spot(&stand.spot);
-        say!(self; " with {}", Piece::Term(&stand.focus));
+        say!(self.hint; " with {}", Fill::Term(&stand.focus));
         let size = self.about.term.size();
-        let (now, before) = (Piece::Count(kept.size, "term"), Piece::Number(size));
+        let (now, before) = (Fill::Count(kept.size, "term"), Fill::Number(size));
         if kept.size > size {
-            say!(self; "; the whole has grown from {} to {}", before, now);
+            say!(self.hint; "; the whole has grown from {} to {}", before, now);
         } else if kept.size < size {
-            say!(self; "; the whole has shrunk from {} to {}", before, now);
+            say!(self.hint; "; the whole has shrunk from {} to {}", before, now);
         }
         match repeated(&kept.recent) {
             Some(calls) => self.say_repeated(calls),
             None => self.say_calls(stand),
         }
         if let Some((rule, times)) = self.greatest(&kept.successes, false, true) {
-            self.words("; ");
+            self.hint.words("; ");
             self.say_definition(rule);
             if let Some(body) = self.about.body_with(rule, stand.strategy) {
-                say!(self; " ({})", Piece::Line(body));
+                say!(self.hint; " ({})", Fill::Line(body.line()));
             }
-            say!(self; " succeeded most often, {}", Piece::Count(times, "time"));
+            say!(self.hint; " succeeded most often, {}", Fill::Count(times, "time"));
         }
-        Ok(())
     }
 
     /// Says which definitions took most steps of their own: at most five of the user, the command
     /// being one, and then some of the library.
-    pub fn say_shares(&mut self, spent: &[u64]) -> Result<(), NoMemory> {
-        let mut left = Vec::from_slice(self.about.alloc, spent)?;
-        let total = sum(spent);
+    pub fn say_shares(&mut self, spent: &[u64]) {
+        match Vec::from_slice(self.about.alloc, spent) {
+            Ok(mut left) => self.say_greatest(&mut left, sum(spent)),
+            Err(_) => self.hint.keep(Err(NoMemory)),
+        }
+    }
+
+    // Says which of these numbers are greatest, and makes each 0.
+    fn say_greatest(&mut self, left: &mut [u64], total: u64) {
         let mut separator = "\n    the steps: ";
         let mut was_of_user = false;
         for said in 0..LISTED {
-            let mut found = self.greatest(&left, false, false);
+            let mut found = self.greatest(left, false, false);
             let is_of_user = found.is_some() && said < OF_USER;
             if !is_of_user {
-                found = self.greatest(&left, true, false);
+                found = self.greatest(left, true, false);
             }
             let Some((number, own)) = found else {
                 break;
@@ -72,13 +77,12 @@ impl Teller<'_> {
             if let Some(steps) = left.get_mut(number) {
                 *steps = 0;
             }
-            self.words(separator);
+            self.hint.words(separator);
             separator = ", ";
             self.say_definition(number);
             let share = own.saturating_mul(100).checked_div(total).unwrap_or(0);
-            say!(self; " {} % ({})", Piece::Number(share), Piece::Number(own));
+            say!(self.hint; " {} % ({})", Fill::Number(share), Fill::Number(own));
         }
-        Ok(())
     }
 
     // The definition, or rule, of the library or the user that has the greatest of these numbers,
@@ -109,9 +113,9 @@ impl Teller<'_> {
         for (number, definition) in calls.iter().enumerate() {
             let before = calls.get(..number).unwrap_or(&[]);
             if said <= REPEATED && !before.contains(definition) {
-                self.words(separator);
+                self.hint.words(separator);
                 if said == REPEATED {
-                    self.words("..");
+                    self.hint.words("..");
                 } else {
                     self.say_definition(*definition);
                 }

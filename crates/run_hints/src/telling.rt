@@ -2,13 +2,10 @@
 
 use crate::about::{About, Body, has_call};
 use crate::observing::{Called, Stand};
-use crate::printing::{pattern_text, strategy_text};
-use aterm_text::print;
 use hint_text::{Fill, Hint, say};
-use std::alloc::Global;
 use strategy_machine::Spot;
-use strategy_syntax::{Head, Pattern, Strategy};
-use term_core::{Kind, NoMemory, Term};
+use strategy_syntax::Head;
+use term_core::Kind;
 
 // The most definitions that are listed.
 const LISTED: usize = 5;
@@ -18,90 +15,19 @@ const WHOLE: usize = 10;
 
 const FRONT: usize = 3;
 
-/// What stands in a place of a sentence.
-#[derive(Clone, Copy)]
-pub enum Piece<'a> {
-    Words(&'static str),
-    Quoted(&'a [u8]),
-    Number(u64),
-    Count(u64, &'static str),
-    /// The line on which a body begins.
-    Line(Body<'a>),
-    Strategy(&'a Strategy),
-    Pattern(&'a Pattern),
-    Term(&'a Term),
-}
-
-/// What is said so far of a run, and what it is said from. A growth that is refused is kept in mind
-/// until the end.
+/// What is said so far of a run, and what it is said from.
 #[derive(Drop)]
 pub struct Teller<'a> {
     pub about: About<'a>,
-    hint: Hint,
-    refused: bool,
+    pub hint: Hint,
 }
 
-impl<'a> Teller<'a> {
-    /// One that has said nothing yet.
-    pub fn new(about: About<'a>) -> Teller<'a> {
-        Teller {
-            about,
-            hint: Hint::new(about.alloc),
-            refused: false,
-        }
-    }
-
-    /// The whole text; `NoMemory` if a growth was refused.
-    pub fn into_text(self) -> Result<Vec<u8>, NoMemory> {
-        let Teller { hint, refused, .. } = self;
-        let text = hint.into_text();
-        if refused { Err(NoMemory) } else { text }
-    }
-
-    /// Appends these words.
-    pub fn words(&mut self, words: &str) {
-        self.hint.words(words);
-    }
-
-    /// Appends a sentence up to its first `{}`, and this in the place of that. Returns the rest.
-    pub fn say_up_to<'s>(&mut self, sentence: &'s str, piece: Piece<'_>) -> &'s str {
-        let alloc = self.about.alloc;
-        let fill = match piece {
-            Piece::Words(words) => Fill::Words(words),
-            Piece::Quoted(bytes) => Fill::Quoted(bytes),
-            Piece::Number(number) => Fill::Number(number),
-            Piece::Count(number, name) => Fill::Count(number, name),
-            Piece::Line(body) => Fill::Line(body.line()),
-            Piece::Strategy(strategy) => return self.quote(
-                sentence,
-                strategy_text(alloc, strategy),
-            ),
-            Piece::Pattern(pattern) => return self.quote(sentence, pattern_text(alloc, pattern)),
-            Piece::Term(term) => return self.quote(sentence, term_text(alloc, term)),
-        };
-        self.hint.say_up_to(sentence, fill)
-    }
-
-    fn quote<'s>(&mut self, sentence: &'s str, text: Result<Vec<u8>, NoMemory>) -> &'s str {
-        match text {
-            Ok(text) => self.hint.say_up_to(sentence, Fill::Quoted(text.as_slice())),
-            Err(_) => {
-                self.refused = true;
-                sentence
-            }
-        }
-    }
-
-    /// Appends what the root of a term with so many children is.
-    pub fn say_root(&mut self, kind: Kind<'_>, count: usize) {
-        self.hint.root(kind, count as u64);
-    }
-
+impl Teller<'_> {
     /// Appends the name of a definition, by its number, or that of the command.
     pub fn say_definition(&mut self, number: usize) {
         match self.about.body(number, 0) {
-            Some(body) => say!(self; "{}", Piece::Quoted(body.definition.name().bytes())),
-            None => self.words("the command"),
+            Some(body) => say!(self.hint; "{}", Fill::Quoted(body.definition.name().bytes())),
+            None => self.hint.words("the command"),
         }
     }
 
@@ -111,17 +37,17 @@ impl<'a> Teller<'a> {
         let (above, below) = (self.about.path, spot.path.as_slice());
         let depth = above.len().saturating_add(below.len());
         let shown = if depth > WHOLE { FRONT } else { WHOLE };
-        self.words(if depth == 0 { "`/" } else { "`" });
+        self.hint.words(if depth == 0 { "`/" } else { "`" });
         for index in above.iter().chain(below).take(shown) {
-            say!(self; "/{}", Piece::Number(*index as u64));
+            say!(self.hint; "/{}", Fill::Number(*index as u64));
         }
         if depth > WHOLE {
-            say!(self; "/..` (depth {})", Piece::Number(depth as u64));
+            say!(self.hint; "/..` (depth {})", Fill::Number(depth as u64));
         } else {
-            self.words("`");
+            self.hint.words("`");
         }
         if spot.before > 0 {
-            say!(self; " after {}", Piece::Count(spot.before as u64, "element"));
+            say!(self.hint; " after {}", Fill::Count(spot.before as u64, "element"));
         }
     }
 
@@ -141,13 +67,13 @@ impl<'a> Teller<'a> {
                 break;
             };
             if !has_call(inner, call.definition) {
-                self.words(if said == 0 {
+                self.hint.words(if said == 0 {
                     "\n    called by, innermost first: "
                 } else {
                     ", "
                 });
                 if said == LISTED {
-                    self.words("..");
+                    self.hint.words("..");
                     return;
                 }
                 said = said.saturating_add(1);
@@ -157,7 +83,7 @@ impl<'a> Teller<'a> {
             begun = call.from;
         }
         if said > 0 {
-            self.words(", the command");
+            self.hint.words(", the command");
         }
     }
 
@@ -181,18 +107,18 @@ impl<'a> Teller<'a> {
         if let Some(body) = body
             && !body.is_of_library()
         {
-            say!(self; " ({}", Piece::Line(body));
+            say!(self.hint; " ({}", Fill::Line(body.line()));
             if body.module.name != module {
-                say!(self; " of {}", Piece::Quoted(body.module.name));
+                say!(self.hint; " of {}", Fill::Quoted(body.module.name));
             }
             end = ")";
         }
         if times > 1 {
-            let before = Piece::Words(if end.is_empty() { " (" } else { ", " });
-            say!(self; "{}{} times", before, Piece::Number(times));
+            let before = Fill::Words(if end.is_empty() { " (" } else { ", " });
+            say!(self.hint; "{}{} times", before, Fill::Number(times));
             end = ")";
         }
-        self.words(end);
+        self.hint.words(end);
     }
 }
 
@@ -203,10 +129,4 @@ pub fn kind_of(head: &Head) -> Kind<'_> {
         Head::List => Kind::List,
         Head::Tuple => Kind::Tuple,
     }
-}
-
-fn term_text(alloc: Global, term: &Term) -> Result<Vec<u8>, NoMemory> {
-    let mut text = Vec::new(alloc);
-    print(term, &mut text)?;
-    Ok(text)
 }

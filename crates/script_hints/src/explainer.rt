@@ -8,7 +8,7 @@ use hint_text::{
 };
 use session_history::{Limits, Refusal, Timeline};
 use std::alloc::Global;
-use term_core::NoMemory;
+use term_core::{Label, NoMemory};
 
 /// What is said so far of a command, and what it is said from.
 #[derive(Drop)]
@@ -34,20 +34,30 @@ pub fn explain<'a>(
     refusal: &Refusal,
 ) -> Result<Vec<u8>, NoMemory> {
     let names = history.module_names()?;
+    let mut modules = Vec::new(alloc);
+    let read = read_for(&mut modules, history, &names, seen, refusal);
+    let mut explainer = Explainer::new(alloc, seen, &modules, history.limits());
+    explainer.hint.keep(read);
+    let explained = explainer.explain_refusal(history, refusal);
+    explainer.hint.keep(explained);
+    explainer.hint.into_text()
+}
+
+// Reads the modules if the explanation needs them.
+fn read_for<'a>(
+    modules: &mut Vec<Text<'a>>,
+    history: &'a Timeline,
+    names: &'a [Label],
+    seen: &ScriptCommand<'a>,
+    refusal: &Refusal,
+) -> Result<(), NoMemory> {
     let parts = parts_of(seen.text);
     let is_check = matches!(refusal, Refusal::Check(..));
     let is_fails = matches!(refusal, Refusal::Fails);
-    let modules = if is_check || (is_fails && has_variable(alloc, parts.text)?) {
-        read_modules(alloc, history, &names, &parts, is_check)?
-    } else {
-        Vec::new(alloc)
-    };
-    let mut explainer = Explainer::new(alloc, seen, &modules, history.limits());
-    let explained = explainer.explain_refusal(history, refusal);
-    let said = explainer.hint.into_text();
-    drop(modules);
-    explained?;
-    said
+    if is_check || (is_fails && has_variable(*modules.allocator(), parts.text)?) {
+        read_modules(modules, history, names, &parts, is_check)?;
+    }
+    Ok(())
 }
 
 impl<'a, 'm, 't> Explainer<'a, 'm, 't> {
@@ -84,8 +94,8 @@ impl<'a, 'm, 't> Explainer<'a, 'm, 't> {
         self.say_refusal(refusal);
         match refusal {
             Refusal::Line => self.explain_line(),
-            Refusal::NoTree => self.explain_missing(&history.tree_names()?, "tree"),
-            Refusal::NoModule => self.explain_missing(&history.module_names()?, "module"),
+            Refusal::NoTree => self.explain_missing(history, "tree"),
+            Refusal::NoModule => self.explain_missing(history, "module"),
             Refusal::Term => self.explain_term(),
             Refusal::Path => self.explain_path(history),
             Refusal::Syntax => self.explain_syntax(),

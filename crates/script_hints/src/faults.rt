@@ -54,8 +54,7 @@ pub fn has_fault(
         strategies: *strategies,
         terms: *terms,
     };
-    let text = history.module_text(name).unwrap_or(&[]);
-    let module = read_module(alloc, name.bytes(), text, true)?;
+    let module = read_module(alloc, history, name, true)?;
     let found = find(&module, fault).is_some();
     drop(module);
     Ok(found)

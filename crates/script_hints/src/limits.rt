@@ -7,7 +7,6 @@ use script_text::MAX_COMMAND;
 use session_history::{MOST_STEPS, Refusal, Timeline};
 use strategy_tokens::{MAX_TOKENS, token_count};
 use term_core::{MAX_HEIGHT, MAX_ROOM, NoMemory, Term};
-use term_paths::read_number;
 
 impl Explainer<'_, '_, '_> {
     /// The refusals whose explanation takes no memory but for its text.
@@ -35,24 +34,14 @@ impl Explainer<'_, '_, '_> {
     }
 
     fn explain_spent(&mut self) {
-        let budget = match read_number(self.parts.number.unwrap_or(&[])) {
-            Some(budget) => budget as u64,
-            None => u64::from(self.seen.budget),
-        };
-        let (budget, most) = (
-            Fill::Count(budget, "step"),
-            Fill::Number(u64::from(self.limits.max_steps)),
-        );
-        say!(self.hint; ": the {} of the budget are used up\n    `within K` takes K up to {}{}", budget, most, self.raises_steps());
-    }
-
-    // Which option of the program raises the limit on budgets, unless it is the greatest.
-    fn raises_steps(&self) -> Fill<'static> {
-        Fill::Words(if self.limits.max_steps < MOST_STEPS {
+        let budget = Fill::Count(self.parts.number_or(self.seen.budget), "step");
+        let most = Fill::Number(u64::from(self.limits.max_steps));
+        let raises = Fill::Words(if self.limits.max_steps < MOST_STEPS {
             " (the program's `--max-steps` raises that)"
         } else {
             ""
-        })
+        });
+        say!(self.hint; ": the {} of the budget are used up\n    `within K` takes K up to {}{}", budget, most, raises);
     }
 
     // Which option of the program raises the limit on the size of terms, unless it is the greatest.
@@ -91,7 +80,7 @@ impl Explainer<'_, '_, '_> {
 
     /// Refusal 14: which limit the term passes.
     pub fn explain_big(&mut self) -> Result<(), NoMemory> {
-        let level = self.path()?.len() as u64;
+        let level = self.parts.path_read(self.alloc)?.len() as u64;
         if self.parts.is_annotations() {
             if let Ok(annotations) = read_annotations(self.alloc, self.parts.text) {
                 self.say_first_big(level.saturating_add(1), &annotations);

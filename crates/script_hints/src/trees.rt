@@ -4,34 +4,17 @@ use crate::explainer::Explainer;
 use hint_text::{Fill, Text, declaring, read_strategy, say};
 use session_history::Timeline;
 use std::alloc::Global;
-use term_core::{Label, NoMemory, Term};
-use term_paths::{Path, PathFault, at, read_path};
+use term_core::NoMemory;
+use term_paths::at;
 
 impl Explainer<'_, '_, '_> {
-    /// The path of the command, the root if it has none.
-    pub fn path(&self) -> Result<Path, NoMemory> {
-        match read_path(self.alloc, self.parts.path.unwrap_or(&[])) {
-            Ok(path) => Ok(path),
-            Err(PathFault::Line) => Ok(Path::root(self.alloc)),
-            Err(PathFault::Memory) => Err(NoMemory),
-        }
-    }
-
-    // The tree of the first name, if it has one.
-    fn tree<'h>(&self, history: &'h Timeline) -> Option<&'h Term> {
-        match Label::read(self.alloc, self.parts.name) {
-            Ok(name) => history.tree(&name),
-            Err(_) => None,
-        }
-    }
-
     /// Refusal 9: the longest front of the path that is there, and how many children that subterm
     /// has.
     pub fn explain_path(&mut self, history: &Timeline) -> Result<(), NoMemory> {
-        let Some(mut subterm) = self.tree(history) else {
+        let Some(mut subterm) = self.parts.tree(self.alloc, history) else {
             return Ok(());
         };
-        let path = self.path()?;
+        let path = self.parts.path_read(self.alloc)?;
         let whole = Fill::Quoted(self.parts.path.unwrap_or(&[]));
         say!(self.hint; ": {} leads only as far as `/", whole);
         let mut separator = "";
@@ -56,8 +39,9 @@ impl Explainer<'_, '_, '_> {
     /// Refusal 12: the root of the term that the strategy was applied to, and a variable of it that
     /// has the name of a constant.
     pub fn explain_fails(&mut self, history: &Timeline) -> Result<(), NoMemory> {
-        let path = self.path()?;
-        let term = self.tree(history).and_then(|tree| at(tree, &path));
+        let path = self.parts.path_read(self.alloc)?;
+        let tree = self.parts.tree(self.alloc, history);
+        let term = tree.and_then(|tree| at(tree, &path));
         drop(path);
         let Some(term) = term else {
             return Ok(());

@@ -32,18 +32,17 @@ pub fn warn<'a>(
         return Ok(Vec::new(alloc));
     }
     let names = history.module_names()?;
-    let modules = read_modules(alloc, history, &names, &parts, false)?;
+    let mut modules = Vec::new(alloc);
+    let read = read_modules(&mut modules, history, &names, &parts, false);
     let mut explainer = Explainer::new(alloc, seen, &modules, history.limits());
-    let warned = if parts.is_module() {
+    explainer.hint.keep(read);
+    if parts.is_module() {
         explainer.warn_of_modules();
-        Ok(())
     } else {
-        explainer.warn_of_constructors()
-    };
-    let said = explainer.hint.into_text();
-    drop(modules);
-    warned?;
-    said
+        let warned = explainer.warn_of_constructors();
+        explainer.hint.keep(warned);
+    }
+    explainer.hint.into_text()
 }
 
 // Of an `apply` that replaced nothing. In a group nothing is said.

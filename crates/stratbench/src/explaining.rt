@@ -3,7 +3,7 @@
 use command_line::Load;
 use hint_text::{Numbered, Past, ScriptCommand};
 use prim_core::Meaning;
-use run_hints::{explain_run, profile_run, tree_of};
+use run_hints::{Ground, explain_run, profile_run, tree_of};
 use script_core::{Framing, Piece, Settings, Watch};
 use script_hints::{explain, warn, warn_of_end};
 use session_core::{MAX_BUDGET, Refusal, Session};
@@ -91,7 +91,12 @@ impl<'a, W: Write> Explaining<'a, W> {
         if let Ok(text) = explain(self.alloc, session.timeline(), &self.seen(command), refusal) {
             show(&mut self.screen, &text);
         }
-        if let Ok(text) = explain_run(self.alloc, session, &self.seen(command), refusal) {
+        if let Ok(text) = explain_run(
+            self.alloc,
+            &ground_of(session),
+            &self.seen(command),
+            refusal,
+        ) {
             show_more(&mut self.screen, &text);
         }
     }
@@ -111,7 +116,7 @@ impl<M: Meaning, W: Write> Watch<M> for Explaining<'_, W> {
     fn expected(&mut self, session: &Session<M>, command: Piece<'_>) {
         self.before = None;
         if self.wanted.profiles
-            && let Some(tree) = tree_of(self.alloc, session, &self.seen(command))
+            && let Some(tree) = tree_of(self.alloc, session.timeline(), &self.seen(command))
             && let Ok(copy) = tree.try_clone()
         {
             self.before = Some(copy);
@@ -125,7 +130,12 @@ impl<M: Meaning, W: Write> Watch<M> for Explaining<'_, W> {
             show(&mut self.screen, &text);
         }
         if let Some(tree) = &self.before
-            && let Ok(text) = profile_run(self.alloc, session, &self.seen(command), tree)
+            && let Ok(text) = profile_run(
+                self.alloc,
+                &ground_of(session),
+                &self.seen(command),
+                tree,
+            )
         {
             show(&mut self.screen, &text);
         }
@@ -137,6 +147,15 @@ impl<M: Meaning, W: Write> Watch<M> for Explaining<'_, W> {
             self.explain(session, command, refusal);
         }
         self.keep(command, false);
+    }
+}
+
+// What the commands of the session are run with.
+fn ground_of<M: Meaning>(session: &Session<M>) -> Ground<'_, M> {
+    Ground {
+        history: session.timeline(),
+        program: session.kept_program(),
+        primitives: session.primitives(),
     }
 }
 

@@ -6,7 +6,7 @@ ghost use Rattle.stratbench_c.specs.Runs.{AreCopied};
 use crate::answers::copy_both;
 use hint_text::{Numbered, Past, ScriptCommand};
 use prim_core::Meaning;
-use run_hints::explain_run;
+use run_hints::{Ground, explain_run};
 use script_core::{Framing, Piece, Watch};
 use script_hints::{explain, warn};
 use session_core::{MAX_BUDGET, Refusal, Session};
@@ -191,7 +191,12 @@ impl<M: Meaning> Watch<M> for Hints {
         if let Ok(said) = said {
             self.add(&said);
         }
-        let why = explain_run(self.alloc, session, &self.seen(command), refusal);
+        let ground = Ground {
+            history: session.timeline(),
+            program: session.kept_program(),
+            primitives: session.primitives(),
+        };
+        let why = explain_run(self.alloc, &ground, &self.seen(command), refusal);
         if let Ok(why) = why
             && let Some(lines) = why.strip_prefix(b"\n")
         {

@@ -1,40 +1,26 @@
 //! Short texts of patterns and strategies.
 
-use hint_text::{Fill, Hint, say};
-use std::alloc::Global;
+use crate::hint::Hint;
 use strategy_syntax::{Head, Pattern, PatternForm, Strategy, StrategyForm};
-use term_core::NoMemory;
 
 /// How deep patterns and strategies are followed. A text has no more tokens.
 pub const DEEPEST: usize = 4_000;
 
-/// The text of a pattern.
-pub fn pattern_text(alloc: Global, pattern: &Pattern) -> Result<Vec<u8>, NoMemory> {
-    let mut text = Hint::new(alloc);
-    add_pattern(&mut text, pattern, DEEPEST);
-    text.into_text()
-}
-
-/// The front of the text of a strategy, with `..` for what follows and for parts in brackets.
-pub fn strategy_text(alloc: Global, strategy: &Strategy) -> Result<Vec<u8>, NoMemory> {
-    let mut text = Hint::new(alloc);
-    add_strategy(&mut text, strategy, DEEPEST);
-    text.into_text()
-}
-
+/// Appends the text of a pattern.
 #[cycle(pattern)]
-fn add_pattern(text: &mut Hint, pattern: &Pattern, deep: usize) {
+pub fn add_pattern(text: &mut Hint, pattern: &Pattern, deep: usize) {
     let Some(deep) = deep.checked_sub(1) else {
         return;
     };
     match pattern.form() {
         PatternForm::Wildcard => text.words("_"),
-        PatternForm::Variable(name) => say!(text; "{}", Fill::Name(name)),
+        PatternForm::Variable(name) => text.name(name),
         PatternForm::At(name, inner) => {
-            say!(text; "{}@", Fill::Name(name));
+            text.name(name);
+            text.words("@");
             add_pattern(text, inner, deep);
         }
-        PatternForm::Integer(value) => say!(text; "{}", Fill::Integer(*value)),
+        PatternForm::Integer(value) => text.integer(*value),
         PatternForm::Compound(head, parts) => {
             add_opening(text, head, parts.len());
             add_patterns(text, parts, deep);
@@ -70,10 +56,14 @@ fn add_patterns(text: &mut Hint, patterns: &[Pattern], deep: usize) {
 
 fn add_opening(text: &mut Hint, head: &Head, count: usize) {
     match head {
-        Head::Application(name) if count == 0 && name.is_quoted() => {
-            say!(text; "{}", Fill::Name(name));
+        Head::Application(name) => {
+            text.name(name);
+            text.words(if count == 0 && name.is_quoted() {
+                ""
+            } else {
+                "("
+            });
         }
-        Head::Application(name) => say!(text; "{}(", Fill::Name(name)),
         Head::List => text.words("["),
         Head::Tuple => text.words("("),
     }
@@ -87,7 +77,8 @@ fn closing(head: &Head, count: usize) -> &'static str {
     }
 }
 
-fn add_strategy(text: &mut Hint, strategy: &Strategy, deep: usize) {
+/// Appends the front of the text of a strategy, with `..` for what follows and for parts in brackets.
+pub fn add_strategy(text: &mut Hint, strategy: &Strategy, deep: usize) {
     let Some(deep) = deep.checked_sub(1) else {
         return;
     };
@@ -130,18 +121,24 @@ fn add_strategy(text: &mut Hint, strategy: &Strategy, deep: usize) {
         StrategyForm::One(_) => text.words("one(..)"),
         StrategyForm::Some(_) => text.words("some(..)"),
         StrategyForm::TailCongruence(_, _) => text.words("[..|..]"),
-        StrategyForm::Child(number, _) => say!(text; "{}(..)", Fill::Number(*number as u64)),
-        StrategyForm::Rec(name, _) => say!(text; "rec {}(..)", Fill::Name(name)),
+        StrategyForm::Child(number, _) => {
+            text.number("", *number as u64);
+            text.words("(..)");
+        }
+        StrategyForm::Rec(name, _) => {
+            text.words("rec ");
+            text.name(name);
+            text.words("(..)");
+        }
         StrategyForm::Congruence(head, parts) => {
             add_opening(text, head, parts.len());
             text.words(if parts.is_empty() { "" } else { ".." });
             text.words(closing(head, parts.len()));
         }
         StrategyForm::Use(name, strategies, patterns) => {
-            let strategies = if strategies.is_empty() { "" } else { ".." };
-            say!(text; "{}", Fill::Name(name));
+            text.name(name);
             if !patterns.is_empty() {
-                say!(text; "({}|", Fill::Words(strategies));
+                text.words(if strategies.is_empty() { "(|" } else { "(..|" });
                 add_patterns(text, patterns, DEEPEST);
                 text.words(")");
             } else if !strategies.is_empty() {
@@ -149,7 +146,8 @@ fn add_strategy(text: &mut Hint, strategy: &Strategy, deep: usize) {
             }
         }
         StrategyForm::Prim(name, patterns) => {
-            say!(text; "prim({}", Fill::Name(name));
+            text.words("prim(");
+            text.name(name);
             text.words(if patterns.is_empty() { "" } else { "," });
             add_patterns(text, patterns, DEEPEST);
             text.words(")");
@@ -157,7 +155,7 @@ fn add_strategy(text: &mut Hint, strategy: &Strategy, deep: usize) {
     }
 }
 
-/// The sides of a rule without a condition.
+// The sides of a rule without a condition.
 fn rule_of(strategy: &Strategy) -> Option<(&Pattern, &Pattern)> {
     if let StrategyForm::Seq(parts) = strategy.form()
         && let StrategyForm::Match(left) = parts.0.form()
