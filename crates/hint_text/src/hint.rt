@@ -114,7 +114,7 @@ impl Hint {
     }
 
     /// Appends what the root of a term with so many children is.
-    pub fn root(&mut self, kind: Kind<'_>, count: u64) {
+    pub fn root(&mut self, kind: Kind<'_>, count: usize) {
         let sentence = match kind {
             Kind::Integer(_) => "the integer {}",
             Kind::Application(_) if count > 0 => "{} of {}",
@@ -125,7 +125,7 @@ impl Hint {
             Kind::List => "a list of {}",
             Kind::Tuple => "a tuple of {}",
         };
-        let terms = Fill::Count(count, "term");
+        let terms = Fill::Count(count as u64, "term");
         let first = match kind {
             Kind::Integer(value) => Fill::Integer(value),
             Kind::Application(name) => Fill::Quoted(name.bytes()),
@@ -216,10 +216,10 @@ impl Hint {
         let kept = first_characters(quoted, QUOTED).len();
         let is_cut = kept < quoted.len();
         self.text.truncate(start.saturating_add(kept));
-        if let Some(quoted) = self.text.get_mut(start..) {
-            for byte in quoted.iter_mut() {
-                *byte = (*byte).max(b' ');
-            }
+        let front = start.min(self.text.len());
+        let (_front, quoted) = self.text.split_at_mut(front);
+        for byte in quoted.iter_mut() {
+            *byte = (*byte).max(b' ');
         }
         self.words(if is_cut { "..`" } else { "`" });
     }

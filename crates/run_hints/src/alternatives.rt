@@ -253,8 +253,8 @@ impl Teller<'_> {
         } else {
             self.hint.words(" takes ");
             match miss.pattern.form() {
-                PatternForm::Integer(value) => self.say_root(Kind::Integer(*value), 0),
-                PatternForm::Compound(head, parts) => self.say_root(kind_of(head), parts.len()),
+                PatternForm::Integer(value) => self.hint.root(Kind::Integer(*value), 0),
+                PatternForm::Compound(head, parts) => self.hint.root(kind_of(head), parts.len()),
                 PatternForm::WithTail(parts, _) => self.say_list(parts.len()),
                 _ => {}
             }

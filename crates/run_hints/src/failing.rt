@@ -114,11 +114,11 @@ impl Teller<'_> {
             }
             StrategyForm::Congruence(head, parts) => {
                 self.hint.words("\n    it takes ");
-                self.say_root(kind_of(head), parts.len());
+                self.hint.root(kind_of(head), parts.len());
             }
             StrategyForm::Use(name, parts, _) => {
                 self.hint.words("\n    it takes ");
-                self.say_root(Kind::Application(name), parts.len());
+                self.hint.root(Kind::Application(name), parts.len());
             }
             _ => {
                 self.say_bound(&stand.bound);

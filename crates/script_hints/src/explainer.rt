@@ -1,14 +1,13 @@
 //! What is said of a refused command.
 
-use crate::faults::Fault;
-use crate::trees::has_variable;
+use crate::faults::fault_of;
 use hint_text::{
     Fill, Hint, Parts, ScriptCommand, Text, count_characters, parts_of, place_of, read_modules,
     say, token_of,
 };
 use session_history::{Limits, Refusal, Timeline};
 use std::alloc::Global;
-use term_core::{Label, NoMemory};
+use term_core::NoMemory;
 
 /// What is said so far of a command, and what it is said from.
 #[derive(Drop)]
@@ -35,29 +34,23 @@ pub fn explain<'a>(
 ) -> Result<Vec<u8>, NoMemory> {
     let names = history.module_names()?;
     let mut modules = Vec::new(alloc);
-    let read = read_for(&mut modules, history, &names, seen, refusal);
+    let is_check = matches!(refusal, Refusal::Check(..));
+    let read = if is_check || matches!(refusal, Refusal::Fails) {
+        read_modules(
+            &mut modules,
+            history,
+            &names,
+            &parts_of(seen.text),
+            is_check,
+        )
+    } else {
+        Ok(())
+    };
     let mut explainer = Explainer::new(alloc, seen, &modules, history.limits());
     explainer.hint.keep(read);
     let explained = explainer.explain_refusal(history, refusal);
     explainer.hint.keep(explained);
     explainer.hint.into_text()
-}
-
-// Reads the modules if the explanation needs them.
-fn read_for<'a>(
-    modules: &mut Vec<Text<'a>>,
-    history: &'a Timeline,
-    names: &'a [Label],
-    seen: &ScriptCommand<'a>,
-    refusal: &Refusal,
-) -> Result<(), NoMemory> {
-    let parts = parts_of(seen.text);
-    let is_check = matches!(refusal, Refusal::Check(..));
-    let is_fails = matches!(refusal, Refusal::Fails);
-    if is_check || (is_fails && has_variable(*modules.allocator(), parts.text)?) {
-        read_modules(modules, history, names, &parts, is_check)?;
-    }
-    Ok(())
 }
 
 impl<'a, 'm, 't> Explainer<'a, 'm, 't> {
@@ -82,9 +75,9 @@ impl<'a, 'm, 't> Explainer<'a, 'm, 't> {
     fn say_refusal(&mut self, refusal: &Refusal) {
         let number = Fill::Number(u64::from(refusal.number()));
         say!(self.hint; "{}: refused {} ", self.source(), number);
-        if let Refusal::Check(kind, name, strategies, terms) = refusal {
-            let (kind, name) = (Fill::Words(kind.word()), Fill::Name(name));
-            say!(self.hint; "{} {} {} {}", kind, name, Fill::Number(*strategies), Fill::Number(*terms));
+        if let Some(fault) = fault_of(refusal) {
+            let (kind, name) = (Fill::Words(fault.kind.word()), Fill::Name(fault.name));
+            say!(self.hint; "{} {} {} {}", kind, name, Fill::Number(fault.strategies), Fill::Number(fault.terms));
         } else {
             self.hint.words(refusal.word());
         }
@@ -92,6 +85,9 @@ impl<'a, 'm, 't> Explainer<'a, 'm, 't> {
 
     fn explain_refusal(&mut self, history: &Timeline, refusal: &Refusal) -> Result<(), NoMemory> {
         self.say_refusal(refusal);
+        if let Some(fault) = fault_of(refusal) {
+            return self.explain_check(fault);
+        }
         match refusal {
             Refusal::Line => self.explain_line(),
             Refusal::NoTree => self.explain_missing(history, "tree"),
@@ -99,12 +95,6 @@ impl<'a, 'm, 't> Explainer<'a, 'm, 't> {
             Refusal::Term => self.explain_term(),
             Refusal::Path => self.explain_path(history),
             Refusal::Syntax => self.explain_syntax(),
-            Refusal::Check(kind, name, strategies, terms) => self.explain_check(Fault {
-                kind: *kind,
-                name,
-                strategies: *strategies,
-                terms: *terms,
-            }),
             Refusal::Fails => self.explain_fails(history),
             Refusal::Big => self.explain_big(),
             other => {

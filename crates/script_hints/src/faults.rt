@@ -27,6 +27,19 @@ pub struct Fault<'a> {
     pub terms: u64,
 }
 
+/// The fault that a refusal names.
+pub fn fault_of(refusal: &Refusal) -> Option<Fault<'_>> {
+    match refusal {
+        Refusal::Check(kind, name, strategies, terms) => Some(Fault {
+            kind: *kind,
+            name,
+            strategies: *strategies,
+            terms: *terms,
+        }),
+        _ => None,
+    }
+}
+
 // A module with a fault, and the numbers of the first token that has it and of the first one of its
 // definition.
 #[derive(Clone, Copy)]
@@ -45,14 +58,8 @@ pub fn has_fault(
     name: &Label,
     refusal: &Refusal,
 ) -> Result<bool, NoMemory> {
-    let Refusal::Check(kind, named, strategies, terms) = refusal else {
+    let Some(fault) = fault_of(refusal) else {
         return Ok(false);
-    };
-    let fault = Fault {
-        kind: *kind,
-        name: named,
-        strategies: *strategies,
-        terms: *terms,
     };
     let module = read_module(alloc, history, name, true)?;
     let found = find(&module, fault).is_some();

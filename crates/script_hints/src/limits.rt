@@ -118,24 +118,17 @@ impl Explainer<'_, '_, '_> {
     }
 }
 
-// The number of bytes before the first bracket with which more than 1,000 are open.
+// The number of bytes before the first bracket with which more than 1,000 are open: the greatest
+// number of those that don't yet open so many.
 fn deep_place(text: &[u8]) -> usize {
-    let mut open = 0u64;
-    let mut is_quoted = false;
-    let mut is_escaped = false;
-    for (at, byte) in text.iter().enumerate() {
-        match *byte {
-            _ if is_escaped => is_escaped = false,
-            b'"' => is_quoted = !is_quoted,
-            b'\\' if is_quoted => is_escaped = true,
-            _ if is_quoted => {}
-            b'(' | b'[' | b'{' => open = open.saturating_add(1),
-            b')' | b']' | b'}' => open = open.saturating_sub(1),
-            _ => {}
-        }
-        if open > MAX_NESTING {
-            return at;
+    let (mut fits, mut most) = (0usize, text.len());
+    for _ in 0..64 {
+        let middle = fits.saturating_add(most) / 2;
+        if nesting(text.get(..middle).unwrap_or(text)) > MAX_NESTING {
+            most = middle;
+        } else {
+            fits = middle;
         }
     }
-    0
+    fits
 }

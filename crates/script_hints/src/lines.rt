@@ -3,7 +3,7 @@
 use crate::explainer::Explainer;
 use crate::names::Near;
 use crate::texts::BEGINS_WITH_MARK;
-use hint_text::{FORMS, Fill, Parts, begins_with_mark, has_word, say, split_word};
+use hint_text::{FORMS, Fill, begins_with_mark, has_word, say, split_word};
 use script_text::{Framing, Keyword};
 use session_history::MAX_STEPS;
 use std::alloc::Global;
@@ -34,21 +34,102 @@ impl Explainer<'_, '_, '_> {
         if self.parts.form.is_empty() {
             return self.explain_word();
         }
-        let (sentence, word, part) = fault_of(&self.parts);
+        self.say_fault();
+        say!(self.hint; "\n    the form is `{}`", Fill::Words(self.parts.form));
+        Ok(())
+    }
+
+    // Says the first fault of a known form, in the order in which they are looked for.
+    fn say_fault(&mut self) {
+        let parts = self.parts;
+        if has_word(parts.form, b"N") && parts.name.is_empty() {
+            self.hint.words("the name is missing");
+        } else if has_word(parts.form, b"C") && parts.copy.is_empty() {
+            self.hint.words("the second name is missing");
+        } else if parts.is_strategy() && !has_word("do", parts.keyword) {
+            self.say_fault_before_do();
+        } else if !parts.has_text() && !parts.text.is_empty() {
+            self.say_fault_after_form();
+        } else {
+            self.say_fault_of_operand();
+        }
+    }
+
+    // Appends a sentence on this word, or on it and the greatest number that may stand there.
+    fn say_of(&mut self, sentence: &str, word: &[u8]) {
         let is_steps = matches!(self.parts.command, Keyword::Undo | Keyword::Redo);
-        let most = Fill::Number(u64::from(if is_steps {
+        let most = if is_steps {
             MAX_STEPS
         } else {
             self.limits.max_steps
-        }));
-        let other = if part.is_empty() {
-            most
-        } else {
-            Fill::Quoted(part)
         };
-        say!(self.hint; sentence, Fill::Quoted(word), other);
-        say!(self.hint; "\n    the form is `{}`", Fill::Words(self.parts.form));
-        Ok(())
+        say!(self.hint; sentence, Fill::Quoted(word), Fill::Number(u64::from(most)));
+    }
+
+    fn say_fault_before_do(&mut self) {
+        let (name, word) = (self.parts.name, self.parts.keyword);
+        let path = self.parts.path.unwrap_or(&[]);
+        let number = self.parts.number.unwrap_or(&[]);
+        let is_plain = self.parts.path.is_none() && self.parts.number.is_none();
+        if is_plain && has_word("at within do", name) {
+            self.say_of(READ_AS_NAME, name);
+        } else if has_word("do", number) {
+            self.say_of(NO_NUMBER, number);
+        } else if has_word("do", path) {
+            self.say_of(NO_SLASH, path);
+        } else if is_plain && word.starts_with(b"/") {
+            self.say_of(NO_AT, word);
+        } else if word.is_empty() {
+            self.hint.words("`do` and a strategy are missing");
+        } else if has_word("at", word) {
+            self.hint
+                .words("`at` comes before `within`, and at most once");
+        } else if has_word("within", word) {
+            self.hint.words("`within` comes at most once");
+        } else {
+            self.say_of("`do` is missing before {}", word);
+        }
+    }
+
+    fn say_fault_after_form(&mut self) {
+        let (parts, word) = (self.parts, split_word(self.parts.text).0);
+        if !has_word(parts.form, b"[at") || parts.path.is_some() {
+            self.say_of("nothing may follow, but there is {}", word);
+        } else if has_word("at", parts.name) {
+            self.say_of(READ_AS_NAME, parts.name);
+        } else if word.starts_with(b"/") {
+            self.say_of(NO_AT, word);
+        } else {
+            self.say_of("only `at` and a path may follow, but there is {}", word);
+        }
+    }
+
+    fn say_fault_of_operand(&mut self) {
+        let path = self.parts.path.unwrap_or(b"/");
+        let Some(numbers) = path.strip_prefix(b"/") else {
+            let is_missing = path.is_empty();
+            return self.say_of(
+                if is_missing {
+                    "the path is missing"
+                } else {
+                    NO_SLASH
+                },
+                path,
+            );
+        };
+        for part in numbers.split(|byte| *byte == b'/') {
+            if part.is_empty() && !numbers.is_empty() {
+                return self.say_of("the path {} has no number after a `/`", path);
+            } else if !part.is_empty() && read_number(part).is_none() {
+                let (path, part) = (Fill::Quoted(path), Fill::Quoted(part));
+                say!(self.hint; "the path {} has {}, which is no number from 0 to 4294967295", path, part);
+                return;
+            }
+        }
+        match self.parts.number {
+            Some([]) | None => self.hint.words("the number is missing"),
+            Some(word) => self.say_of(NO_NUMBER, word),
+        }
     }
 
     fn explain_word(&mut self) -> Result<(), NoMemory> {
@@ -89,92 +170,6 @@ impl Explainer<'_, '_, '_> {
             Framing::Lines => "\n    with `--lines` and `-i` each line is a command",
             Framing::Continued => "\n    every line of a command but the first begins with a blank: the `{}` of {} ended before this one",
         }, Fill::Words(before), Fill::Line(line));
-    }
-}
-
-// The first fault of a known form, in the order in which they are looked for: a sentence, and the
-// words that it speaks of. In place of the second comes the greatest number, if it is empty.
-fn fault_of<'a>(parts: &Parts<'a>) -> (&'static str, &'a [u8], &'a [u8]) {
-    if has_word(parts.form, b"N") && parts.name.is_empty() {
-        ("the name is missing", &[], &[])
-    } else if has_word(parts.form, b"C") && parts.copy.is_empty() {
-        ("the second name is missing", &[], &[])
-    } else if parts.is_strategy() && !has_word("do", parts.keyword) {
-        fault_before_do(parts)
-    } else if !parts.has_text() && !parts.text.is_empty() {
-        fault_after_form(parts)
-    } else {
-        fault_of_operand(parts)
-    }
-}
-
-fn fault_before_do<'a>(parts: &Parts<'a>) -> (&'static str, &'a [u8], &'a [u8]) {
-    let (name, word) = (parts.name, parts.keyword);
-    let is_plain = parts.path.is_none() && parts.number.is_none();
-    let is_do = |word: Option<&[u8]>| has_word("do", word.unwrap_or(&[]));
-    if is_plain && has_word("at within do", name) {
-        (READ_AS_NAME, name, &[])
-    } else if is_do(parts.number) {
-        (NO_NUMBER, parts.number.unwrap_or(&[]), &[])
-    } else if is_do(parts.path) {
-        (NO_SLASH, parts.path.unwrap_or(&[]), &[])
-    } else if is_plain && word.starts_with(b"/") {
-        (NO_AT, word, &[])
-    } else if word.is_empty() {
-        ("`do` and a strategy are missing", &[], &[])
-    } else if has_word("at", word) {
-        ("`at` comes before `within`, and at most once", &[], &[])
-    } else if has_word("within", word) {
-        ("`within` comes at most once", &[], &[])
-    } else {
-        ("`do` is missing before {}", word, &[])
-    }
-}
-
-fn fault_after_form<'a>(parts: &Parts<'a>) -> (&'static str, &'a [u8], &'a [u8]) {
-    let word = split_word(parts.text).0;
-    if !has_word(parts.form, b"[at") || parts.path.is_some() {
-        ("nothing may follow, but there is {}", word, &[])
-    } else if has_word("at", parts.name) {
-        (READ_AS_NAME, parts.name, &[])
-    } else if word.starts_with(b"/") {
-        (NO_AT, word, &[])
-    } else {
-        (
-            "only `at` and a path may follow, but there is {}",
-            word,
-            &[],
-        )
-    }
-}
-
-fn fault_of_operand<'a>(parts: &Parts<'a>) -> (&'static str, &'a [u8], &'a [u8]) {
-    let path = parts.path.unwrap_or(b"/");
-    let Some(numbers) = path.strip_prefix(b"/") else {
-        return (
-            if path.is_empty() {
-                "the path is missing"
-            } else {
-                NO_SLASH
-            },
-            path,
-            &[],
-        );
-    };
-    for part in numbers.split(|byte| *byte == b'/') {
-        if part.is_empty() && !numbers.is_empty() {
-            return ("the path {} has no number after a `/`", path, &[]);
-        } else if !part.is_empty() && read_number(part).is_none() {
-            return (
-                "the path {} has {}, which is no number from 0 to 4294967295",
-                path,
-                part,
-            );
-        }
-    }
-    match parts.number {
-        Some([]) | None => ("the number is missing", &[], &[]),
-        Some(word) => (NO_NUMBER, word, &[]),
     }
 }
 

@@ -3,7 +3,6 @@
 use crate::explainer::Explainer;
 use hint_text::{Fill, Text, declaring, read_strategy, say};
 use session_history::Timeline;
-use std::alloc::Global;
 use term_core::NoMemory;
 use term_paths::at;
 
@@ -47,7 +46,7 @@ impl Explainer<'_, '_, '_> {
             return Ok(());
         };
         say!(self.hint; ": it was applied to ");
-        self.hint.root(term.kind(), term.child_count() as u64);
+        self.hint.root(term.kind(), term.child_count());
         let strategy = read_strategy(self.alloc, self.parts.text)?;
         self.say_constant(&strategy);
         drop(strategy);
@@ -67,15 +66,4 @@ impl Explainer<'_, '_, '_> {
             }
         }
     }
-}
-
-/// Whether a strategy has a variable, which may be the name of a constant.
-pub fn has_variable(alloc: Global, text: &[u8]) -> Result<bool, NoMemory> {
-    let strategy = read_strategy(alloc, text)?;
-    let mut found = false;
-    for number in 0..strategy.tokens.len() {
-        found = found || strategy.variable_at(number).is_some();
-    }
-    drop(strategy);
-    Ok(found)
 }
