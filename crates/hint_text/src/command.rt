@@ -58,8 +58,8 @@ pub fn split_word(text: &[u8]) -> (&[u8], &[u8]) {
     text.split_at(end.unwrap_or(text.len()))
 }
 
-/// The line of a table that begins with this word; empty if none does.
-pub fn line_of(table: &'static str, word: &[u8]) -> &'static str {
+// The line of a table that begins with this word; empty if none does.
+fn line_of(table: &'static str, word: &[u8]) -> &'static str {
     for line in table.lines() {
         if split_word(line.as_bytes()).0 == word {
             return line;
@@ -128,7 +128,7 @@ impl<'a> Parts<'a> {
     }
 
     /// The path of the command; the root if it has none.
-    pub fn path_read(&self, alloc: Global) -> Result<Path, NoMemory> {
+    pub fn path_or_root(&self, alloc: Global) -> Result<Path, NoMemory> {
         match read_path(alloc, self.path.unwrap_or(&[])) {
             Ok(path) => Ok(path),
             Err(PathFault::Line) => Ok(Path::root(alloc)),

@@ -216,10 +216,10 @@ impl Hint {
         let kept = first_characters(quoted, QUOTED).len();
         let is_cut = kept < quoted.len();
         self.text.truncate(start.saturating_add(kept));
-        let front = start.min(self.text.len());
-        let (_front, quoted) = self.text.split_at_mut(front);
-        for byte in quoted.iter_mut() {
-            *byte = (*byte).max(b' ');
+        for number in start..self.text.len() {
+            if let Some(byte) = self.text.get_mut(number) {
+                *byte = (*byte).max(b' ');
+            }
         }
         self.words(if is_cut { "..`" } else { "`" });
     }

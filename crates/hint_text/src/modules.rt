@@ -41,15 +41,17 @@ pub fn read_modules<'a>(
     let mut place = 0;
     for name in names {
         if !changes || name.bytes() != parts.name {
-            texts.push(read_module(alloc, history, name, with_tokens)?)?;
+            let read = read_module(alloc, history, name, with_tokens)?;
+            texts.push(read)?;
             if name.bytes() < parts.name {
                 place = texts.len();
             }
         }
     }
     if parts.is_module() {
-        let new = Text::new(alloc, parts.name, parts.text, true);
-        texts.insert(place.min(texts.len()), new.read(alloc, true)?)?;
+        let new = Text::new(alloc, parts.name, parts.text, true).read(alloc, true)?;
+        let place = place.min(texts.len());
+        texts.insert(place, new)?;
     }
     Ok(())
 }

@@ -28,17 +28,17 @@ impl Alternative<'_> {
     }
 }
 
-/// Adds the alternatives that failed before this place of a run did, or of which it is the choice:
-/// those around it first.
-pub fn add_alternatives<'a>(
+/// The alternatives that failed before this place of a run did, or of which it is the choice: those
+/// around it first.
+pub fn alternatives<'a>(
     about: About<'a>,
-    found: &mut Vec<Alternative<'a>>,
     place: StrategyPlace<'a>,
     calls: &[Called<'_>],
-) -> Result<(), NoMemory> {
+) -> Result<Vec<Alternative<'a>>, NoMemory> {
+    let mut found = Vec::new(about.alloc);
     let mut place = place;
     for _ in 0..=calls.len() {
-        add_around(about, found, place)?;
+        add_around(about, &mut found, place)?;
         let number = place.calls.saturating_sub(1);
         let (Some(call), Some(outer)) = (calls.get(number), calls.get(..number)) else {
             break;
@@ -55,7 +55,7 @@ pub fn add_alternatives<'a>(
             None => break,
         }
     }
-    Ok(())
+    Ok(found)
 }
 
 // Adds the alternatives of the choice around a place, and the bodies before its own.

@@ -83,7 +83,7 @@ fn look_at<'a, M: Meaning>(
     wanted: Wanted,
 ) -> Result<Vec<u8>, NoMemory> {
     let parts = parts_of(seen.text);
-    let path = parts.path_read(alloc)?;
+    let path = parts.path_or_root(alloc)?;
     let (Some(term), Some(program)) = (at(tree, &path), ground.program) else {
         return Ok(Vec::new(alloc));
     };
@@ -201,10 +201,9 @@ fn watch<'t, M: Meaning>(
         let (strategy, look) = (about.resolved, &mut observer);
         has_run = plan_patch_seen(alloc, &host, term, level, strategy, steps, look).is_ok();
     }
-    let Observer { kept, .. } = observer;
-    if has_run || kept.is_complete() {
-        Ok(kept)
-    } else {
-        Err(NoMemory)
+    if !has_run && !observer.kept.is_complete() {
+        return Err(NoMemory);
     }
+    let Observer { kept, .. } = observer;
+    Ok(kept)
 }

@@ -1,7 +1,7 @@
 //! Why a run failed, and where it met a term that is too big.
 
 use crate::about::StrategyPlace;
-use crate::alternatives::add_alternatives;
+use crate::alternatives::alternatives;
 use crate::finding::are_same;
 use crate::matching::{find_miss, matched};
 use crate::observing::{Bound, Stand};
@@ -40,18 +40,15 @@ impl Teller<'_> {
                 self.say_stand(place, stand, "fails on");
                 let told = self.say_reason(place, stand);
                 if with_alternatives {
-                    self.say_all_alternatives(place, stand, if told { 2 } else { 3 });
+                    let most = if told { 2 } else { 3 };
+                    match alternatives(self.about, place, &stand.calls) {
+                        Ok(found) => self.say_alternatives(&found, place, &stand.focus, most),
+                        Err(NoMemory) => self.hint.keep(Err(NoMemory)),
+                    }
                 }
             }
         }
         self.say_calls(stand);
-    }
-
-    fn say_all_alternatives(&mut self, place: StrategyPlace<'_>, stand: &Stand<'_>, most: usize) {
-        let mut found = Vec::new(self.about.alloc);
-        let added = add_alternatives(self.about, &mut found, place, &stand.calls);
-        self.hint.keep(added);
-        self.say_alternatives(&found, place, &stand.focus, most);
     }
 
     /// Says which strategy made a term that is too big, and where.

@@ -180,7 +180,8 @@ impl<'t> RunRecord<'t> {
         }
         if let Some(begun) = begun {
             let around = machine.frames.size_around(self.about.alloc)?;
-            self.size = around.saturating_add(self.keep_stand(machine, begun, false)?);
+            let focus = self.keep_stand(machine, begun, false)?;
+            self.size = around.saturating_add(focus);
         }
         Ok(())
     }

@@ -51,21 +51,17 @@ impl Teller<'_> {
     /// Says which definitions took most steps of their own: at most five of the user, the command
     /// being one, and then some of the library.
     pub fn say_shares(&mut self, spent: &[u64]) {
-        match Vec::from_slice(self.about.alloc, spent) {
-            Ok(mut left) => self.say_greatest(&mut left, sum(spent)),
-            Err(_) => self.hint.keep(Err(NoMemory)),
-        }
-    }
-
-    // Says which of these numbers are greatest, and makes each 0.
-    fn say_greatest(&mut self, left: &mut [u64], total: u64) {
+        let Ok(mut left) = Vec::from_slice(self.about.alloc, spent) else {
+            return self.hint.keep(Err(NoMemory));
+        };
+        let total = sum(spent);
         let mut separator = "\n    the steps: ";
         let mut was_of_user = false;
         for said in 0..LISTED {
-            let mut found = self.greatest(left, false, false);
+            let mut found = self.greatest(&left, false, false);
             let is_of_user = found.is_some() && said < OF_USER;
             if !is_of_user {
-                found = self.greatest(left, true, false);
+                found = self.greatest(&left, true, false);
             }
             let Some((number, own)) = found else {
                 break;

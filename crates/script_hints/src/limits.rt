@@ -80,7 +80,7 @@ impl Explainer<'_, '_, '_> {
 
     /// Refusal 14: which limit the term passes.
     pub fn explain_big(&mut self) -> Result<(), NoMemory> {
-        let level = self.parts.path_read(self.alloc)?.len() as u64;
+        let level = self.parts.path_or_root(self.alloc)?.len() as u64;
         if self.parts.is_annotations() {
             if let Ok(annotations) = read_annotations(self.alloc, self.parts.text) {
                 self.say_first_big(level.saturating_add(1), &annotations);

@@ -13,7 +13,7 @@ impl Explainer<'_, '_, '_> {
         let Some(mut subterm) = self.parts.tree(self.alloc, history) else {
             return Ok(());
         };
-        let path = self.parts.path_read(self.alloc)?;
+        let path = self.parts.path_or_root(self.alloc)?;
         let whole = Fill::Quoted(self.parts.path.unwrap_or(&[]));
         say!(self.hint; ": {} leads only as far as `/", whole);
         let mut separator = "";
@@ -38,7 +38,7 @@ impl Explainer<'_, '_, '_> {
     /// Refusal 12: the root of the term that the strategy was applied to, and a variable of it that
     /// has the name of a constant.
     pub fn explain_fails(&mut self, history: &Timeline) -> Result<(), NoMemory> {
-        let path = self.parts.path_read(self.alloc)?;
+        let path = self.parts.path_or_root(self.alloc)?;
         let tree = self.parts.tree(self.alloc, history);
         let term = tree.and_then(|tree| at(tree, &path));
         drop(path);
