@@ -77,7 +77,8 @@ fn closing(head: &Head, count: usize) -> &'static str {
     }
 }
 
-/// Appends the front of the text of a strategy, with `..` for what follows and for parts in brackets.
+/// Appends the front of the text of a strategy, with `..` for what follows, and for what is in
+/// brackets.
 pub fn add_strategy(text: &mut Hint, strategy: &Strategy, deep: usize) {
     let Some(deep) = deep.checked_sub(1) else {
         return;
