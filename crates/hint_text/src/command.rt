@@ -33,7 +33,7 @@ unload N";
 
 /// The parts of a command. A word that its form doesn't have, or that is missing, is empty or none.
 #[derive(Clone, Copy)]
-pub struct Parts<'a> {
+pub struct CommandParts<'a> {
     pub word: &'a [u8],
     pub command: Keyword,
     /// The form that begins with the word; empty if there is none.
@@ -74,12 +74,12 @@ pub fn has_word(form: &str, word: &[u8]) -> bool {
 }
 
 /// The parts of a command.
-pub fn parts_of(text: &[u8]) -> Parts<'_> {
+pub fn parts_of(text: &[u8]) -> CommandParts<'_> {
     let (word, after) = split_word(text);
     let (command, rest) = split_keyword(text);
     // The blanks at the end belong to no part.
     let blanks = after.len().saturating_sub(rest.len());
-    let mut parts = Parts {
+    let mut parts = CommandParts {
         word,
         command,
         form: line_of(FORMS, word),
@@ -102,7 +102,7 @@ pub fn parts_of(text: &[u8]) -> Parts<'_> {
     parts
 }
 
-impl<'a> Parts<'a> {
+impl<'a> CommandParts<'a> {
     // Takes the word in the place of an operand from what follows; of an option the word after its
     // own, if that comes next.
     fn take(&mut self, operand: &str) {

@@ -12,7 +12,7 @@ mod printing;
 pub use characters::{
     begins_with_mark, character_at, count_characters, first_characters, place_of,
 };
-pub use command::{FORMS, Parts, Past, ScriptCommand, has_word, parts_of, split_word};
+pub use command::{CommandParts, FORMS, Past, ScriptCommand, has_word, parts_of, split_word};
 pub use hint::{Fill, Hint, QUOTED, fill_of};
 pub use modules::{
     Text, arity_of, declaring, is_sign, module_of, read_module, read_modules, read_strategy,

@@ -1,6 +1,6 @@
 //! The texts of modules and of a strategy, each read once.
 
-use crate::command::Parts;
+use crate::command::CommandParts;
 use script_text::Keyword;
 use session_history::Timeline;
 use std::alloc::Global;
@@ -33,7 +33,7 @@ pub fn read_modules<'a>(
     texts: &mut Vec<Text<'a>>,
     history: &'a Timeline,
     names: &'a [Label],
-    parts: &Parts<'a>,
+    parts: &CommandParts<'a>,
     with_tokens: bool,
 ) -> Result<(), NoMemory> {
     let alloc = *texts.allocator();

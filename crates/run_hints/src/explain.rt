@@ -32,7 +32,7 @@ pub struct Ground<'a, M: Meaning> {
 pub fn explain_run<'a, M: Meaning>(
     alloc: Global,
     ground: &Ground<'a, M>,
-    seen: &ScriptCommand<'a>,
+    command: &ScriptCommand<'a>,
     refusal: &Refusal,
 ) -> Result<Vec<u8>, NoMemory> {
     let wanted = match refusal {
@@ -41,8 +41,8 @@ pub fn explain_run<'a, M: Meaning>(
         Refusal::Big => Wanted::End,
         _ => return Ok(Vec::new(alloc)),
     };
-    match tree_of(alloc, ground.history, seen) {
-        Some(tree) => look_at(alloc, ground, seen, tree, wanted),
+    match tree_of(alloc, ground.history, command) {
+        Some(tree) => look_at(alloc, ground, command, tree, wanted),
         None => Ok(Vec::new(alloc)),
     }
 }
@@ -54,19 +54,19 @@ pub fn explain_run<'a, M: Meaning>(
 pub fn profile_run<'a, M: Meaning>(
     alloc: Global,
     ground: &Ground<'a, M>,
-    seen: &ScriptCommand<'a>,
+    command: &ScriptCommand<'a>,
     tree: &'a Term,
 ) -> Result<Vec<u8>, NoMemory> {
-    look_at(alloc, ground, seen, tree, Wanted::Steps)
+    look_at(alloc, ground, command, tree, Wanted::Steps)
 }
 
 /// The tree that the command applies a strategy to, if it does.
 pub fn tree_of<'a>(
     alloc: Global,
     history: &'a Timeline,
-    seen: &ScriptCommand<'_>,
+    command: &ScriptCommand<'_>,
 ) -> Option<&'a Term> {
-    let parts = parts_of(seen.text);
+    let parts = parts_of(command.text);
     if parts.is_strategy() {
         parts.tree(alloc, history)
     } else {
@@ -78,11 +78,11 @@ pub fn tree_of<'a>(
 fn look_at<'a, M: Meaning>(
     alloc: Global,
     ground: &Ground<'a, M>,
-    seen: &ScriptCommand<'a>,
+    command: &ScriptCommand<'a>,
     tree: &'a Term,
     wanted: Wanted,
 ) -> Result<Vec<u8>, NoMemory> {
-    let parts = parts_of(seen.text);
+    let parts = parts_of(command.text);
     let path = parts.path_or_root(alloc)?;
     let (Some(term), Some(program)) = (at(tree, &path), ground.program) else {
         return Ok(Vec::new(alloc));
@@ -100,7 +100,7 @@ fn look_at<'a, M: Meaning>(
                     term,
                     path: path.parts(),
                 };
-                look_at_run(ground, seen, about, wanted)
+                look_at_run(ground, command, about, wanted)
             }
             Err(_) => Ok(Vec::new(alloc)),
         },
@@ -110,22 +110,28 @@ fn look_at<'a, M: Meaning>(
 
 fn look_at_run<M: Meaning>(
     ground: &Ground<'_, M>,
-    seen: &ScriptCommand<'_>,
+    command: &ScriptCommand<'_>,
     about: About<'_>,
     wanted: Wanted,
 ) -> Result<Vec<u8>, NoMemory> {
     let history = ground.history;
     let names = history.module_names()?;
     let mut modules = Vec::new(about.alloc);
-    match read_modules(&mut modules, history, &names, &parts_of(seen.text), false) {
-        Ok(()) => tell(ground, seen, about, &modules, wanted),
+    match read_modules(
+        &mut modules,
+        history,
+        &names,
+        &parts_of(command.text),
+        false,
+    ) {
+        Ok(()) => tell(ground, command, about, &modules, wanted),
         Err(NoMemory) => Err(NoMemory),
     }
 }
 
 fn tell<'a, M: Meaning>(
     ground: &Ground<'_, M>,
-    seen: &ScriptCommand<'_>,
+    command: &ScriptCommand<'_>,
     about: About<'a>,
     modules: &'a [Text<'a>],
     wanted: Wanted,
@@ -138,7 +144,7 @@ fn tell<'a, M: Meaning>(
         },
         hint: Hint::new(about.alloc),
     };
-    let told = tell_run(&mut teller, ground, seen, wanted);
+    let told = tell_run(&mut teller, ground, command, wanted);
     teller.hint.keep(told);
     teller.hint.into_text()
 }
@@ -146,17 +152,17 @@ fn tell<'a, M: Meaning>(
 fn tell_run<M: Meaning>(
     teller: &mut Teller<'_>,
     ground: &Ground<'_, M>,
-    seen: &ScriptCommand<'_>,
+    command: &ScriptCommand<'_>,
     wanted: Wanted,
 ) -> Result<(), NoMemory> {
-    let kept = watch(ground, seen, teller.about, wanted)?;
-    tell_kept(teller, ground, seen, wanted, &kept)
+    let kept = watch(ground, command, teller.about, wanted)?;
+    tell_kept(teller, ground, command, wanted, &kept)
 }
 
 fn tell_kept<M: Meaning>(
     teller: &mut Teller<'_>,
     ground: &Ground<'_, M>,
-    seen: &ScriptCommand<'_>,
+    command: &ScriptCommand<'_>,
     wanted: Wanted,
     kept: &RunRecord<'_>,
 ) -> Result<(), NoMemory> {
@@ -164,14 +170,14 @@ fn tell_kept<M: Meaning>(
         (Wanted::Spending, _, _) => teller.say_spent(kept),
         (Wanted::Steps, _, _) => {
             let steps = Fill::Count(sum(&kept.spent), "step");
-            say!(teller.hint; "line {}: {}", Fill::Number(seen.line), steps);
+            say!(teller.hint; "line {}: {}", Fill::Number(command.line), steps);
             teller.say_shares(&kept.spent);
         }
         (_, None, _) => {}
         (Wanted::End, Some(stand), _) => teller.say_big(stand),
         (_, Some(stand), None) => teller.say_failure(stand, None, 0),
         (_, Some(stand), Some(cause)) => {
-            let earlier = watch(ground, seen, teller.about, Wanted::FailureIn(cause.turn))?;
+            let earlier = watch(ground, command, teller.about, Wanted::FailureIn(cause.turn))?;
             teller.say_failure(stand, earlier.stand.as_ref(), cause.steps);
         }
     }
@@ -181,11 +187,11 @@ fn tell_kept<M: Meaning>(
 // Runs it again, and returns what is kept of that.
 fn watch<'t, M: Meaning>(
     ground: &Ground<'t, M>,
-    seen: &ScriptCommand<'_>,
+    command: &ScriptCommand<'_>,
     about: About<'t>,
     wanted: Wanted,
 ) -> Result<RunRecord<'t>, NoMemory> {
-    let steps = parts_of(seen.text).number_or(seen.budget);
+    let steps = parts_of(command.text).number_or(command.budget);
     let host = Host {
         definitions: about.program.definitions(),
         primitives: ground.primitives,

@@ -120,7 +120,7 @@ fn is_same(strategy: &ResolvedStrategy, other: &ResolvedStrategy, deep: usize) -
         (Form::Id, Form::Id) | (Form::Fail, Form::Fail) => true,
         (Form::Param(number), Form::Param(more)) => number == more,
         (Form::Match(part), Form::Match(more)) | (Form::Build(part), Form::Build(more)) => {
-            is_same_place(part, more, deep)
+            is_same_pattern(part, more, deep)
         }
         (Form::Seq(parts), Form::Seq(more)) => {
             is_same(&parts.0, &more.0, deep) && is_same(&parts.1, &more.1, deep)
@@ -139,11 +139,13 @@ fn is_same(strategy: &ResolvedStrategy, other: &ResolvedStrategy, deep: usize) -
         | (Form::Child(number, part), Form::Child(count, more)) => {
             number == count && is_same(part, more, deep)
         }
-        (Form::Call(number, parts, places), Form::Call(count, more, others)) => {
-            number == count && all_same(parts, more, deep) && all_same_places(places, others, deep)
+        (Form::Call(number, parts, patterns), Form::Call(count, more, others)) => {
+            number == count
+                && all_same(parts, more, deep)
+                && all_same_patterns(patterns, others, deep)
         }
-        (Form::Prim(number, places), Form::Prim(count, others)) => {
-            number == count && all_same_places(places, others, deep)
+        (Form::Prim(number, patterns), Form::Prim(count, others)) => {
+            number == count && all_same_patterns(patterns, others, deep)
         }
         (Form::Congruence(head, parts), Form::Congruence(another, more)) => {
             head.equals(another) && all_same(parts, more, deep)
@@ -164,37 +166,41 @@ fn all_same(parts: &[ResolvedStrategy], others: &[ResolvedStrategy], deep: usize
     same
 }
 
-#[cycle(same_place)]
-fn is_same_place(place: &ResolvedPattern, other: &ResolvedPattern, deep: usize) -> bool {
+#[cycle(same_pattern)]
+fn is_same_pattern(pattern: &ResolvedPattern, other: &ResolvedPattern, deep: usize) -> bool {
     let Some(deep) = deep.checked_sub(1) else {
         return false;
     };
-    match (place.form(), other.form()) {
+    match (pattern.form(), other.form()) {
         (ResolvedPatternForm::Wildcard, ResolvedPatternForm::Wildcard) => true,
         (ResolvedPatternForm::Variable(number), ResolvedPatternForm::Variable(more)) => number
             == more,
         (ResolvedPatternForm::Integer(value), ResolvedPatternForm::Integer(more)) => value == more,
         (ResolvedPatternForm::At(number, part), ResolvedPatternForm::At(count, more)) => {
-            number == count && is_same_place(part, more, deep)
+            number == count && is_same_pattern(part, more, deep)
         }
         (
             ResolvedPatternForm::Compound(head, parts),
             ResolvedPatternForm::Compound(another, more),
-        ) => { head.equals(another) && all_same_places(parts, more, deep) }
+        ) => { head.equals(another) && all_same_patterns(parts, more, deep) }
         (ResolvedPatternForm::WithTail(parts, part), ResolvedPatternForm::WithTail(others, more))
         | (
             ResolvedPatternForm::Annotated(part, parts),
             ResolvedPatternForm::Annotated(more, others),
-        ) => { is_same_place(part, more, deep) && all_same_places(parts, others, deep) }
+        ) => { is_same_pattern(part, more, deep) && all_same_patterns(parts, others, deep) }
         _ => false,
     }
 }
 
-#[cycle(same_place)]
-fn all_same_places(places: &[ResolvedPattern], others: &[ResolvedPattern], deep: usize) -> bool {
-    let mut same = places.len() == others.len();
-    for (place, other) in places.iter().zip(others) {
-        same = same && is_same_place(place, other, deep);
+#[cycle(same_pattern)]
+fn all_same_patterns(
+    patterns: &[ResolvedPattern],
+    others: &[ResolvedPattern],
+    deep: usize,
+) -> bool {
+    let mut same = patterns.len() == others.len();
+    for (pattern, other) in patterns.iter().zip(others) {
+        same = same && is_same_pattern(pattern, other, deep);
     }
     same
 }

@@ -8,8 +8,8 @@ use prim_core::Meaning;
 use strategy_machine::{Host, Machine, Next, Spot};
 use strategy_run::Look;
 use strategy_syntax::{
-    Pattern, PatternForm, ResolvedForm as Form, ResolvedPatternForm, ResolvedStrategy,
-    StrategyForm as Named,
+    Pattern, PatternForm, ResolvedForm as Form, ResolvedPattern, ResolvedPatternForm,
+    ResolvedStrategy, StrategyForm as Named,
 };
 use term_core::{Kind, Name, NoMemory, Term};
 
@@ -431,18 +431,21 @@ fn add_bound<'t>(
     node: Node<'t>,
 ) -> Result<(), NoMemory> {
     match (node.resolved.form(), node.named.form()) {
-        (Form::Match(place), Named::Match(pattern)) | (Form::Build(place), Named::Build(pattern)) =>
-            {
-                add_variables(bound, machine, scope, place, pattern, DEEPEST)?;
-            }
+        (Form::Match(resolved), Named::Match(pattern))
+        | (Form::Build(resolved), Named::Build(pattern)) => {
+            add_variables(bound, machine, scope, resolved, pattern, DEEPEST)?;
+        }
         (Form::Seq(parts), Named::Seq(names)) => {
-            if let (Form::Match(place), Named::Match(pattern)) = (parts.0.form(), names.0.form()) {
-                add_variables(bound, machine, scope, place, pattern, DEEPEST)?;
+            if let (Form::Match(resolved), Named::Match(pattern)) = (
+                parts.0.form(),
+                names.0.form(),
+            ) {
+                add_variables(bound, machine, scope, resolved, pattern, DEEPEST)?;
             }
         }
-        (Form::Prim(_, places), Named::Prim(_, patterns)) => {
-            for (place, pattern) in places.iter().zip(patterns) {
-                add_variables(bound, machine, scope, place, pattern, DEEPEST)?;
+        (Form::Prim(_, resolved_patterns), Named::Prim(_, patterns)) => {
+            for (resolved, pattern) in resolved_patterns.iter().zip(patterns) {
+                add_variables(bound, machine, scope, resolved, pattern, DEEPEST)?;
             }
         }
         _ => {}
@@ -454,7 +457,7 @@ fn add_variables<'t>(
     bound: &mut Vec<Bound<'t>>,
     machine: &Machine<'_>,
     scope: usize,
-    place: &strategy_syntax::ResolvedPattern,
+    resolved: &ResolvedPattern,
     pattern: &'t Pattern,
     deep: usize,
 ) -> Result<(), NoMemory> {
@@ -462,7 +465,7 @@ fn add_variables<'t>(
         return Ok(());
     };
     if let ResolvedPatternForm::Variable(variable)
-    | ResolvedPatternForm::At(variable, _) = place.form()
+    | ResolvedPatternForm::At(variable, _) = resolved.form()
         && let PatternForm::Variable(name) | PatternForm::At(name, _) = pattern.form()
         && bound.len() < BOUND
         && let Some(cell) = machine.scopes.cell(scope, *variable)
@@ -471,15 +474,15 @@ fn add_variables<'t>(
         let term = value.to_term(*bound.allocator())?;
         bound.push(Bound { name, term })?;
     }
-    match (place.form(), pattern.form()) {
-        (ResolvedPatternForm::At(_, place), PatternForm::At(_, inner))
-        | (ResolvedPatternForm::Annotated(place, _), PatternForm::Annotated(inner, _)) => {
-            add_variables(bound, machine, scope, place, inner, deep)?;
+    match (resolved.form(), pattern.form()) {
+        (ResolvedPatternForm::At(_, resolved), PatternForm::At(_, inner))
+        | (ResolvedPatternForm::Annotated(resolved, _), PatternForm::Annotated(inner, _)) => {
+            add_variables(bound, machine, scope, resolved, inner, deep)?;
         }
-        (ResolvedPatternForm::Compound(_, places), PatternForm::Compound(_, parts))
-        | (ResolvedPatternForm::WithTail(places, _), PatternForm::WithTail(parts, _)) => {
-            for (place, part) in places.iter().zip(parts) {
-                add_variables(bound, machine, scope, place, part, deep)?;
+        (ResolvedPatternForm::Compound(_, resolved_parts), PatternForm::Compound(_, parts))
+        | (ResolvedPatternForm::WithTail(resolved_parts, _), PatternForm::WithTail(parts, _)) => {
+            for (resolved, part) in resolved_parts.iter().zip(parts) {
+                add_variables(bound, machine, scope, resolved, part, deep)?;
             }
         }
         _ => {}

@@ -2,20 +2,20 @@
 
 use crate::faults::fault_of;
 use hint_text::{
-    Fill, Hint, Parts, ScriptCommand, Text, count_characters, parts_of, place_of, read_modules,
-    say, token_of,
+    CommandParts, Fill, Hint, ScriptCommand, Text, count_characters, parts_of, place_of,
+    read_modules, say, token_of,
 };
 use session_history::{Limits, Refusal, Timeline};
 use std::alloc::Global;
-use term_core::NoMemory;
+use term_core::{Label, NoMemory};
 
 /// What is said so far of a command, and what it is said from.
 #[derive(Drop)]
 pub struct Explainer<'a, 'm, 't> {
     pub alloc: Global,
     pub hint: Hint,
-    pub seen: ScriptCommand<'a>,
-    pub parts: Parts<'a>,
+    pub command: ScriptCommand<'a>,
+    pub parts: CommandParts<'a>,
     /// The modules, in the order of their names, where the explanation needs them.
     pub modules: &'m [Text<'t>],
     /// Those of the session.
@@ -29,43 +29,48 @@ pub struct Explainer<'a, 'm, 't> {
 pub fn explain<'a>(
     alloc: Global,
     history: &'a Timeline,
-    seen: &ScriptCommand<'a>,
+    command: &ScriptCommand<'a>,
     refusal: &Refusal,
 ) -> Result<Vec<u8>, NoMemory> {
     let names = history.module_names()?;
-    let mut modules = Vec::new(alloc);
     let is_check = matches!(refusal, Refusal::Check(..));
-    let read = if is_check || matches!(refusal, Refusal::Fails) {
-        read_modules(
-            &mut modules,
-            history,
-            &names,
-            &parts_of(seen.text),
-            is_check,
-        )
+    let modules = if is_check || matches!(refusal, Refusal::Fails) {
+        modules_of(alloc, history, &names, &parts_of(command.text), is_check)?
     } else {
-        Ok(())
+        Vec::new(alloc)
     };
-    let mut explainer = Explainer::new(alloc, seen, &modules, history.limits());
-    explainer.hint.keep(read);
+    let mut explainer = Explainer::new(alloc, command, &modules, history.limits());
     let explained = explainer.explain_refusal(history, refusal);
     explainer.hint.keep(explained);
     explainer.hint.into_text()
+}
+
+/// The modules as they are once the command is obeyed, with the tokens of all if they are wanted.
+pub fn modules_of<'a>(
+    alloc: Global,
+    history: &'a Timeline,
+    names: &'a [Label],
+    parts: &CommandParts<'a>,
+    with_tokens: bool,
+) -> Result<Vec<Text<'a>>, NoMemory> {
+    let mut modules = Vec::new(alloc);
+    read_modules(&mut modules, history, names, parts, with_tokens)?;
+    Ok(modules)
 }
 
 impl<'a, 'm, 't> Explainer<'a, 'm, 't> {
     /// One that has said nothing yet.
     pub fn new(
         alloc: Global,
-        seen: &ScriptCommand<'a>,
+        command: &ScriptCommand<'a>,
         modules: &'m [Text<'t>],
         limits: Limits,
     ) -> Explainer<'a, 'm, 't> {
         Explainer {
             alloc,
             hint: Hint::new(alloc),
-            seen: *seen,
-            parts: parts_of(seen.text),
+            command: *command,
+            parts: parts_of(command.text),
             modules,
             limits,
         }
@@ -108,23 +113,27 @@ impl<'a, 'm, 't> Explainer<'a, 'm, 't> {
 
     /// The line on which the command begins, or the file that it loads.
     pub fn source(&self) -> Fill<'a> {
-        match self.seen.file {
+        match self.command.file {
             Some(file) => Fill::Words(file),
-            None => Fill::Line(self.seen.line),
+            None => Fill::Line(self.command.line),
         }
     }
 
     /// The place in the script after so many bytes of the text of the command.
     pub fn at(&self, start: usize) -> Fill<'a> {
-        let seen = &self.seen;
+        let command = &self.command;
         // The text is without the blanks before the command and the comments within it.
-        let place = place_of(seen.text, seen.line, self.parts.at.saturating_add(start));
+        let place = place_of(
+            command.text,
+            command.line,
+            self.parts.at.saturating_add(start),
+        );
         let mut column = count_characters(place.before).saturating_add(1);
-        if place.line == seen.line {
-            column = column.saturating_add(seen.indent);
+        if place.line == command.line {
+            column = column.saturating_add(command.indent);
         }
         let mut line = place.line;
-        for comment in seen.comments {
+        for comment in command.comments {
             if *comment <= line {
                 line = line.saturating_add(1);
             }
@@ -142,7 +151,7 @@ impl<'a, 'm, 't> Explainer<'a, 'm, 't> {
     /// Appends the line of the place after so many bytes of the text of the command, and a `^`
     /// below it.
     pub fn show(&mut self, start: usize) {
-        let (text, at) = (self.seen.text, self.parts.at.saturating_add(start));
+        let (text, at) = (self.command.text, self.parts.at.saturating_add(start));
         self.hint.show(text, at);
     }
 

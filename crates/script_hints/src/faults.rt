@@ -231,7 +231,7 @@ impl Explainer<'_, '_, '_> {
     // The numbers of arguments of the definition of this name in the library, if it has one and
     // wasn't loaded.
     fn arity_in_library(&self, name: &Name) -> Result<Option<(u64, u64)>, NoMemory> {
-        let Some(text) = self.seen.library else {
+        let Some(text) = self.command.library else {
             return Ok(None);
         };
         let library = module_of(self.alloc, text)?;

@@ -11,7 +11,7 @@ use term_core::{MAX_HEIGHT, MAX_ROOM, NoMemory, Term};
 impl Explainer<'_, '_, '_> {
     /// The refusals whose explanation takes no memory but for its text.
     pub fn explain_limit(&mut self, history: &Timeline, refusal: &Refusal) {
-        let group = self.seen.past.group;
+        let group = self.command.past.group;
         let line = Fill::Line(group.unwrap_or(0));
         match refusal {
             Refusal::Name => self.explain_name(),
@@ -34,7 +34,7 @@ impl Explainer<'_, '_, '_> {
     }
 
     fn explain_spent(&mut self) {
-        let budget = Fill::Count(self.parts.number_or(self.seen.budget), "step");
+        let budget = Fill::Count(self.parts.number_or(self.command.budget), "step");
         let most = Fill::Number(u64::from(self.limits.max_steps));
         let raises = Fill::Words(if self.limits.max_steps < MOST_STEPS {
             " (the program's `--max-steps` raises that)"

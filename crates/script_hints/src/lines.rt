@@ -140,7 +140,7 @@ impl Explainer<'_, '_, '_> {
             return Ok(());
         }
         say!(self.hint; "there is no command {}", Fill::Quoted(word));
-        match self.seen.past.before {
+        match self.command.past.before {
             _ if !near.is_empty() => say!(self.hint; "; did you mean {}?", Fill::Quoted(near)),
             Some((before, line)) if self.goes_on() => self.say_continued(before, line),
             _ => self.say_commands(),
@@ -154,7 +154,7 @@ impl Explainer<'_, '_, '_> {
         let word = self.parts.word;
         let is_alone = self.parts.text.is_empty() && !has_word(QUESTIONS, word);
         let is_sign = |byte: &u8| SIGNS.contains(byte);
-        is_alone || has_word(PARTS, word) || self.seen.text.iter().any(is_sign)
+        is_alone || has_word(PARTS, word) || self.command.text.iter().any(is_sign)
     }
 
     fn say_commands(&mut self) {
@@ -166,7 +166,7 @@ impl Explainer<'_, '_, '_> {
 
     // Says that the command before, of this word, ended.
     fn say_continued(&mut self, before: &str, line: u64) {
-        say!(self.hint; match self.seen.framing {
+        say!(self.hint; match self.command.framing {
             Framing::Lines => "\n    with `--lines` and `-i` each line is a command",
             Framing::Continued => "\n    every line of a command but the first begins with a blank: the `{}` of {} ended before this one",
         }, Fill::Words(before), Fill::Line(line));

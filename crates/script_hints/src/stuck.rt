@@ -1,6 +1,6 @@
 //! A token with which a text doesn't go on, what is around it, and what to write in its place.
 
-use hint_text::{Fill, Hint, Parts, has_word, is_sign, say, split_word, token_of};
+use hint_text::{CommandParts, Fill, Hint, has_word, is_sign, say, split_word, token_of};
 use std::alloc::Global;
 use strategy_parse::{stuck_module, stuck_strategy};
 use strategy_tokens::{Keyword, Sign, Token, is_mark};
@@ -90,7 +90,7 @@ pub struct StuckToken<'a> {
 /// Where the text of the command, which has these tokens, stops being a module or a strategy.
 pub fn stuck_of<'a>(
     alloc: Global,
-    parts: &Parts<'a>,
+    parts: &CommandParts<'a>,
     tokens: &'a [Token],
 ) -> Result<StuckToken<'a>, NoMemory> {
     let (begin, number) = stuck_token(alloc, parts, tokens.len())?;
@@ -122,7 +122,11 @@ pub fn stuck_of<'a>(
 
 // The number of the token that begins the item, and of the one with which it can't go on; that of
 // all tokens if it ends too early.
-fn stuck_token(alloc: Global, parts: &Parts<'_>, all: usize) -> Result<(usize, usize), NoMemory> {
+fn stuck_token(
+    alloc: Global,
+    parts: &CommandParts<'_>,
+    all: usize,
+) -> Result<(usize, usize), NoMemory> {
     let found = if parts.is_module() {
         stuck_module(alloc, parts.text).map(|found| found.map(|it| (it.item, it.token)))
     } else {

@@ -1,9 +1,8 @@
 //! What is odd in an accepted command.
 
-use crate::explainer::Explainer;
+use crate::explainer::{Explainer, modules_of};
 use hint_text::{
-    Fill, Hint, Past, ScriptCommand, Text, arity_of, declaring, is_sign, parts_of, read_modules,
-    say,
+    Fill, Hint, Past, ScriptCommand, Text, arity_of, declaring, is_sign, parts_of, say,
 };
 use script_text::{Framing, Keyword as Command};
 use session_history::Timeline;
@@ -22,36 +21,37 @@ const LOOKED: usize = 16_384;
 pub fn warn<'a>(
     alloc: Global,
     history: &'a Timeline,
-    seen: &ScriptCommand<'a>,
+    command: &ScriptCommand<'a>,
 ) -> Result<Vec<u8>, NoMemory> {
-    let parts = parts_of(seen.text);
+    let parts = parts_of(command.text);
     if matches!(parts.command, Command::Apply) {
-        return warn_of_nothing(alloc, history, seen);
+        return warn_of_nothing(alloc, history, command);
     }
     if !parts.is_module() && (!parts.is_term() || parts.text.len() > LOOKED) {
         return Ok(Vec::new(alloc));
     }
     let names = history.module_names()?;
-    let mut modules = Vec::new(alloc);
-    let read = read_modules(&mut modules, history, &names, &parts, false);
-    let mut explainer = Explainer::new(alloc, seen, &modules, history.limits());
-    explainer.hint.keep(read);
-    if parts.is_module() {
+    let modules = modules_of(alloc, history, &names, &parts, false)?;
+    let mut explainer = Explainer::new(alloc, command, &modules, history.limits());
+    let warned = if parts.is_module() {
         explainer.warn_of_modules();
+        Ok(())
     } else {
-        let warned = explainer.warn_of_constructors();
-        explainer.hint.keep(warned);
-    }
-    explainer.hint.into_text()
+        explainer.warn_of_constructors()
+    };
+    explainer.hint.keep(warned);
+    let said = explainer.hint.into_text();
+    drop(modules);
+    said
 }
 
 // Of an `apply` that replaced nothing. In a group nothing is said.
 fn warn_of_nothing<'a>(
     alloc: Global,
     history: &'a Timeline,
-    seen: &ScriptCommand<'a>,
+    command: &ScriptCommand<'a>,
 ) -> Result<Vec<u8>, NoMemory> {
-    let mut explainer = Explainer::new(alloc, seen, &[], history.limits());
+    let mut explainer = Explainer::new(alloc, command, &[], history.limits());
     if history.last_is_empty() {
         say!(explainer.hint; "{}: warning: the strategy replaced nothing", explainer.source());
     }
@@ -125,7 +125,7 @@ fn has_name(names: &[Name], name: &Name) -> bool {
 impl Explainer<'_, '_, '_> {
     // Only of the module of the command the tokens were read.
     fn warn_of_modules(&mut self) {
-        if self.parts.text.is_empty() && self.seen.framing == Framing::Lines {
+        if self.parts.text.is_empty() && self.command.framing == Framing::Lines {
             let name = Fill::Quoted(self.parts.name);
             say!(self.hint; "{}: warning: the module {} is empty now: each line is a command; `undo` takes it back", self.source(), name);
         }

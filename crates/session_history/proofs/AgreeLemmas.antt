@@ -7,7 +7,7 @@ use Rattle.term_core.proofs.TreeLemmas.{to_list-of_list, of_list-to_list}
 use Rattle.term_paths.specs.Paths.{at, set_at, set_annotations_at}
 use Rattle.term_paths.proofs.PathLemmas.{changed_at, changed_at-child, changed_at-no_child, at-child, set_at-changed, set_annotations_at-changed}
 use Rattle.strategy_meaning.proofs.SameLemmas.{head-self}
-use Rattle.session_history.specs.Differences.{Difference, as_many, noted, differences, differences_from}
+use Rattle.session_history.specs.Differences.{Difference, as_many, annotated, differences, differences_from}
 use Rattle.session_history.specs.inside.Lined.{same_root}
 use Rattle.session_history.proofs.DifferenceLemmas.{trees_same, as_many_by, differences_same, from_same, differ_below, kid_there, kid_set}
 

@@ -11,7 +11,7 @@ use Rattle.term_core.specs.declared.kind.Kind.TheVariants.{Integer, Application,
 use Rattle.term_core.proofs.TreeLemmas.{to_list-of_list, of_list-to_list}
 use Rattle.strategy_meaning.specs.Same.{same_head, same_tree, same_trees}
 use Rattle.strategy_meaning.proofs.SameLemmas.{head-self, same_is_equal}
-use Rattle.session_history.specs.Differences.{Difference, parts, notes, as_many, noted, differences, differences_from}
+use Rattle.session_history.specs.Differences.{Difference, subterms_differ, annotations_differ, as_many, annotated, differences, differences_from}
 use Rattle.session_history.specs.inside.Lined.{same_root, same_kind}
 
 -- ---- tests
@@ -54,14 +54,14 @@ as_many_same : (ts : Trees) → as_many ts ts ≡ true
 as_many_same none = refl
 as_many_same (more t ts) = as_many_same ts
 
-pub noted_same : (path : List ℕ) (ts : Trees) → noted path ts ts ≡ []
-noted_same path ts = rw (trees_same ts) refl
+pub annotated_same : (path : List ℕ) (ts : Trees) → annotated path ts ts ≡ []
+annotated_same path ts = rw (trees_same ts) refl
 
-pub noted_equal : (path : List ℕ) (ts us : List Tree) → ts ≡ us → noted path (of_list ts) (of_list us) ≡ []
-noted_equal path ts us e = ap (λ l. noted path (of_list l) (of_list us)) e ∙ noted_same path (of_list us)
+pub annotated_equal : (path : List ℕ) (ts us : List Tree) → ts ≡ us → annotated path (of_list ts) (of_list us) ≡ []
+annotated_equal path ts us e = ap (λ l. annotated path (of_list l) (of_list us)) e ∙ annotated_same path (of_list us)
 
-pub noted_apart : (path : List ℕ) (ts us : List Tree) → (ts ≡ us → ⊥) → noted path (of_list ts) (of_list us) ≡ notes path (of_list ts) (of_list us) ∷ []
-noted_apart path ts us never =
+pub annotated_apart : (path : List ℕ) (ts us : List Tree) → (ts ≡ us → ⊥) → annotated path (of_list ts) (of_list us) ≡ annotations_differ path (of_list ts) (of_list us) ∷ []
+annotated_apart path ts us never =
     let alike = trees_equal (of_list ts) (of_list us) in
     let test : same_trees (of_list ts) (of_list us) ≡ false =
     same_tests (same_trees (of_list ts) (of_list us)) false ⊥
@@ -72,7 +72,7 @@ noted_apart path ts us never =
 -- Nothing differs in equal trees.
 mutual
   pub differences_same : (path : List ℕ) (t : Tree) → differences path t t ≡ []
-  differences_same path (integer z ns) = rw ((Decides-int_eq z z).1 refl) (noted_same path ns)
+  differences_same path (integer z ns) = rw ((Decides-int_eq z z).1 refl) (annotated_same path ns)
   differences_same path (branch h us ns) = rw (head-self h, as_many_same us, trees_same ns) (from_same path 0 us)
 
   pub from_same : (path : List ℕ) (i : ℕ) (ts : Trees) → differences_from path i ts ts ≡ []
@@ -82,22 +82,22 @@ mutual
 
 -- ---- by the root
 
-pub differ_at_root : (path : List ℕ) (t u : Tree) → same_root t u ≡ false → differences path t u ≡ parts path t u ∷ []
+pub differ_at_root : (path : List ℕ) (t u : Tree) → same_root t u ≡ false → differences path t u ≡ subterms_differ path t u ∷ []
 differ_at_root path (integer y ns) (integer z ms) e = let test : int_eq y z ≡ false = e in rw test refl
 differ_at_root path (integer y ns) (branch k vs ms) e = refl
 differ_at_root path (branch h us ns) (integer z ms) e = refl
 differ_at_root path (branch h us ns) (branch k vs ms) e = let test : same_head h k && as_many us vs ≡ false = e in rw test refl
 
 pub differ_below : (path : List ℕ) (t u : Tree) → same_root t u ≡ true
-    → differences path t u ≡ noted path (of_list (annotations t)) (of_list (annotations u)) ++ differences_from path 0 (of_list (children t)) (of_list (children u))
+    → differences path t u ≡ annotated path (of_list (annotations t)) (of_list (annotations u)) ++ differences_from path 0 (of_list (children t)) (of_list (children u))
 differ_below path (integer y ns) (integer z ms) e =
     let test : int_eq y z ≡ true = e in
-    rw test ((λ k. noted path (sym (of_list-to_list ns) k) (sym (of_list-to_list ms) k)) ∙ sym (append-nil (noted path (of_list (to_list ns)) (of_list (to_list ms)))))
+    rw test ((λ k. annotated path (sym (of_list-to_list ns) k) (sym (of_list-to_list ms) k)) ∙ sym (append-nil (annotated path (of_list (to_list ns)) (of_list (to_list ms)))))
 differ_below path (integer y ns) (branch k vs ms) e = absurd (cc)
 differ_below path (branch h us ns) (integer z ms) e = absurd (cc)
 differ_below path (branch h us ns) (branch k vs ms) e =
     let test : same_head h k && as_many us vs ≡ true = e in
-    rw test (λ j. noted path (sym (of_list-to_list ns) j) (sym (of_list-to_list ms) j) ++ differences_from path 0 (sym (of_list-to_list us) j) (sym (of_list-to_list vs) j))
+    rw test (λ j. annotated path (sym (of_list-to_list ns) j) (sym (of_list-to_list ms) j) ++ differences_from path 0 (sym (of_list-to_list us) j) (sym (of_list-to_list vs) j))
 
 pub as_many_count : (ts us : Trees) → as_many ts us ≡ true → length (to_list ts) ≡ length (to_list us)
 as_many_count none none e = refl

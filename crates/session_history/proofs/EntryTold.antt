@@ -16,7 +16,7 @@ use Rattle.term_changes.specs.PatchLaws.{patch_entries, patched}
 use Rattle.term_changes.proofs.SlotLemmas.{no_slot, same_content}
 use Rattle.term_changes.proofs.FlipLemmas.{leads_both_ways}
 use Rattle.session_history.specs.Differences.{differences, difference_line, changes_of}
-use Rattle.session_history.specs.inside.Told.{log_lines, entry_lines, told_of, if_asked, IsAsked, IsNamed}
+use Rattle.session_history.specs.inside.Told.{log_lines, entry_lines, asked_lines, if_asked, IsAsked, IsNamed}
 use Rattle.session_history.proofs.ChangedLemmas.{no_tree_changes}
 use Rattle.session_history.proofs.LogTold.{log_told, nothing_changed}
 
@@ -35,7 +35,7 @@ unasked_told (Some m) n xs never =
     ] refl
 
 module _ (asked : Option (List ℕ)) (s : Store) (trees_are : HaveDistinctLabels s.trees) (texts_are : HaveDistinctLabels s.modules) where
-  pub one_told : (n : List ℕ) (e : Entry) → IsNamed s n e → Fits (e ∷ []) s → log_lines asked (e ∷ []) s ≡ flat_map (told_of asked s) ((n, e) ∷ [])
+  pub one_told : (n : List ℕ) (e : Entry) → IsNamed s n e → Fits (e ∷ []) s → log_lines asked (e ∷ []) s ≡ flat_map (asked_lines asked s) ((n, e) ∷ [])
   one_told n e named fits = log_told asked s trees_are texts_are ((n, e) ∷ []) (named, tt) (tt, tt) fits
 
   -- ---- a patch

@@ -16,7 +16,7 @@ use Rattle.session_history.specs.inside.Told.{LeadsToBase, log_lines}
 use Rattle.session_history.specs.History.{HistoryGroup, History}
 use Rattle.session_history.specs.Moving.{KeepsHistory}
 use Rattle.session_history.specs.Unfolded.{Logged, past_of, later_of, FitBack, FitForward, IsCurrent, IsPlaced, unfolded}
-use Rattle.session_history.specs.declared.lines.Lines.{Lines}
+use Rattle.session_history.specs.declared.lines.CountedLines.{CountedLines}
 use Rattle.session_modules.specs.declared.refusal.Refusal.{Refusal}
 use Rattle.session_history.specs.declared.timeline.OpenGroup.{OpenGroup}
 use Rattle.session_history.proofs.TimelineLemmas.{past_of-append, FitBack-split, take_next}
@@ -104,7 +104,7 @@ module _ (name : Option (List ℕ)) (old mid : Logged) (keeps : KeepsHistory old
   same_refusal r h ps = ap base_of (sym (keeps.same ps)) ∙ h ps
 
   -- the number of the lines is put before them
-  pub told_changes : (a b : Lines) (out : List ℕ) → a.text.items ≡ out → a.count ≡ 0
+  pub told_changes : (a b : CountedLines) (out : List ℕ) → a.text.items ≡ out → a.count ≡ 0
       → ((ps : List Signature) → (base : Contents) × (base_of (unfolded ps mid) ≡ Ok base) × AddsLines (changes_of name base (contents mid.store)) a b)
       → (start : ℕ) → start ≡ length out → (new : List ℕ)
       → new ≡ take start b.text.items ++ (codes "changes " ++ decimal b.count ++ 10 ∷ drop start b.text.items)
@@ -126,7 +126,7 @@ module _ (name : Option (List ℕ)) (old mid : Logged) (keeps : KeepsHistory old
       }
 
   -- nothing before them is lost
-  pub begun_within : (a b : Lines) (out : List ℕ) → a.text.items ≡ out
+  pub begun_within : (a b : CountedLines) (out : List ℕ) → a.text.items ≡ out
       → ((ps : List Signature) → (base : Contents) × (base_of (unfolded ps mid) ≡ Ok base) × AddsLines (changes_of name base (contents mid.store)) a b)
       → length out ≤ length b.text.items
   begun_within a b out begun adds =
@@ -143,7 +143,7 @@ pub inside_group : (o : Option OpenGroup) (l log : List Entry) → Some log ≡ 
 inside_group None l log e = absurd (cc)
 inside_group (Some g) l log e = (g, refl, (let is : log ≡ l = cc in is))
 
-pub adds_changes : (name : Option (List ℕ)) (t : Logged) (log : List Entry) (s : Store) (a b : Lines) → s ≡ t.store → LeadsToBase log t → AddsLines (log_lines name log s) a b
+pub adds_changes : (name : Option (List ℕ)) (t : Logged) (log : List Entry) (s : Store) (a b : CountedLines) → s ≡ t.store → LeadsToBase log t → AddsLines (log_lines name log s) a b
     → (ps : List Signature) → (base : Contents) × (base_of (unfolded ps t) ≡ Ok base) × AddsLines (changes_of name base (contents t.store)) a b
 adds_changes name t log s a b same leads adds ps =
     (contents (before log t.store), leads.base ps, subst (λ x. AddsLines (log_lines name log x) a b) same adds)

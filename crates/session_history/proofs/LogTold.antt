@@ -19,8 +19,8 @@ use Rattle.term_changes.specs.Contents.{Contents}
 use Rattle.term_changes.specs.Slots.{Slots, Store, HaveDistinctLabels, labels, content, with_content, slot_of, contents}
 use Rattle.term_changes.specs.Entries.{Entry, slot_tree, subterm, subterm_annotations, slot_text, put, before, subterm_in, HasPlace, Fits}
 use Rattle.change_log.proofs.PlaceLemmas.{content_of_other}
-use Rattle.session_history.specs.Differences.{Difference, noted, differences, difference_line, tree_lines, text_lines, changes_of}
-use Rattle.session_history.specs.inside.Told.{entry_lines, IsNamed, AllAs, those, if_asked, told_of}
+use Rattle.session_history.specs.Differences.{Difference, annotated, differences, difference_line, tree_lines, text_lines, changes_of}
+use Rattle.session_history.specs.inside.Told.{entry_lines, IsNamed, AllAs, those, if_asked, asked_lines}
 use Rattle.session_history.proofs.AgreeLemmas.{Along, Later, change_differs, along_itself, later_kept}
 use Rattle.session_history.proofs.OneTreeLemmas.{change_of, path_of, told_at, MayGoOn, Agrees, agrees_itself, told_at_end, agrees_kept}
 use Rattle.session_history.proofs.NamesLemmas.{among, asked_of, one_more}
@@ -424,7 +424,7 @@ nothing_changed asked c =
 
 module _ (asked : Option (List ℕ)) (s : Store) (trees_are : HaveDistinctLabels s.trees) (texts_are : HaveDistinctLabels s.modules) where
   pub log_told : (ps : List (List ℕ × Entry)) → AllAs (IsNamed s) ps → ComeInOrder ps → Fits (those ps) s
-      → changes_of asked (contents (before (those ps) s)) (contents s) ≡ flat_map (told_of asked s) ps
+      → changes_of asked (contents (before (those ps) s)) (contents s) ≡ flat_map (asked_lines asked s) ps
   log_told [] named order fits = nothing_changed asked (contents s)
   log_told ((n, slot_tree i o) ∷ ps) named order fits =
       let x = before (those ps) s in

@@ -15,9 +15,9 @@ use Rattle.term_changes.specs.LogView.{entry_of}
 use Rattle.term_changes.specs.declared.entry.Kept.{Kept}
 use Rattle.term_changes.specs.declared.entry.Kept.TheVariants.{Tree, Subterm, Annotations, Text}
 use Rattle.change_log.specs.Reading.{held_entry}
-use Rattle.session_history.specs.declared.diff.Named.{Named}
+use Rattle.session_history.specs.declared.diff.NamedEntry.{NamedEntry}
 use Rattle.session_history.specs.inside.NamedPairs.{pairs_of}
-use Rattle.session_history.specs.inside.Told.{is_of_text, those, AllAs, HasSlot, IsNamed, told_of, log_lines}
+use Rattle.session_history.specs.inside.Told.{is_of_text, those, AllAs, HasSlot, IsNamed, asked_lines, log_lines}
 use Rattle.session_history.proofs.OneTreeLemmas.{path_of}
 use Rattle.session_history.proofs.SortedLemmas.{IsPart, sorted_told, sorted_keyed}
 use Rattle.session_history.proofs.ChangedLemmas.{slot_of_label}
@@ -79,29 +79,29 @@ pub AllAs-append : (P : List ℕ → Entry → Type 0) (ps : List (List ℕ × E
 AllAs-append P [] n e h x = (x, tt)
 AllAs-append P (p ∷ ps) n e h x = (h.0, AllAs-append P ps n e h.1 x)
 
-pairs_more : (xs : List Named) (x : Named) → pairs_of (xs ++ x ∷ []) ≡ pairs_of xs ++ (x.name.now, held_entry x.held) ∷ []
+pairs_more : (xs : List NamedEntry) (x : NamedEntry) → pairs_of (xs ++ x ∷ []) ≡ pairs_of xs ++ (x.name.now, held_entry x.held) ∷ []
 pairs_more xs x = map-append (λ x. (x.name.now, held_entry x.held)) xs (x ∷ [])
 
 -- What was found, and then the entries that are left, are the log.
-pub found_more : (xs : List Named) (x : Named) (rest new log : List Entry) → those (pairs_of xs) ++ rest ≡ log → rest ≡ held_entry x.held ∷ new → those (pairs_of (xs ++ x ∷ [])) ++ new ≡ log
+pub found_more : (xs : List NamedEntry) (x : NamedEntry) (rest new log : List Entry) → those (pairs_of xs) ++ rest ≡ log → rest ≡ held_entry x.held ∷ new → those (pairs_of (xs ++ x ∷ [])) ++ new ≡ log
 found_more xs x rest new log is next =
     ap (λ ps. those ps ++ new) (pairs_more xs x)
     ∙ ap (λ es. es ++ new) (map-append (λ (p : List ℕ × Entry). p.1) (pairs_of xs) ((x.name.now, held_entry x.held) ∷ []))
     ∙ append_assoc (those (pairs_of xs)) (held_entry x.held ∷ []) new
     ∙ ap (λ es. those (pairs_of xs) ++ es) (sym next) ∙ is
 
-pub named_more : (P : List ℕ → Entry → Type 0) (xs : List Named) (x : Named) → AllAs P (pairs_of xs) → P x.name.now (held_entry x.held) → AllAs P (pairs_of (xs ++ x ∷ []))
+pub named_more : (P : List ℕ → Entry → Type 0) (xs : List NamedEntry) (x : NamedEntry) → AllAs P (pairs_of xs) → P x.name.now (held_entry x.held) → AllAs P (pairs_of (xs ++ x ∷ []))
 named_more P xs x all here = subst (AllAs P) (sym (pairs_more xs x)) (AllAs-append P (pairs_of xs) x.name.now (held_entry x.held) all here)
 
 -- ---- entries that are told one after the other
 
-module _ (asked : Option (List ℕ)) (s : Store) (xs : List Named) (i : ℕ) where
-  pub next_told : (x : Named) → i < length xs → x ≡ get_or xs i x
-      → flat_map (told_of asked s) (pairs_of (drop i xs)) ≡ told_of asked s (x.name.now, held_entry x.held) ++ flat_map (told_of asked s) (pairs_of (drop (i + 1) xs))
-  next_told x h e = ap (λ l. flat_map (told_of asked s) (pairs_of l)) (drop_more xs i x h ∙ ap (λ y. y ∷ drop (i + 1) xs) (sym e))
+module _ (asked : Option (List ℕ)) (s : Store) (xs : List NamedEntry) (i : ℕ) where
+  pub next_told : (x : NamedEntry) → i < length xs → x ≡ get_or xs i x
+      → flat_map (asked_lines asked s) (pairs_of (drop i xs)) ≡ asked_lines asked s (x.name.now, held_entry x.held) ++ flat_map (asked_lines asked s) (pairs_of (drop (i + 1) xs))
+  next_told x h e = ap (λ l. flat_map (asked_lines asked s) (pairs_of l)) (drop_more xs i x h ∙ ap (λ y. y ∷ drop (i + 1) xs) (sym e))
 
-  pub none_left : length xs ≤ i → flat_map (told_of asked s) (pairs_of (drop i xs)) ≡ []
-  none_left h = ap (λ l. flat_map (told_of asked s) (pairs_of l)) (drop_all i xs h)
+  pub none_left : length xs ≤ i → flat_map (asked_lines asked s) (pairs_of (drop i xs)) ≡ []
+  none_left h = ap (λ l. flat_map (asked_lines asked s) (pairs_of l)) (drop_all i xs h)
 
 -- ---- entries in the order of their keys
 
@@ -112,9 +112,9 @@ own_path i p (Annotations os) h = refl
 own_path i p (Text x) h = absurd h
 
 module _ (asked : Option (List ℕ)) (s : Store) (trees_are : HaveDistinctLabels s.trees) (texts_are : HaveDistinctLabels s.modules) where
-  pub found_told : (log : List Entry) (xs ys : List Named) → those (pairs_of xs) ≡ log → AllAs (IsNamed s) (pairs_of xs) → IsPermutation xs ys
+  pub found_told : (log : List Entry) (xs ys : List NamedEntry) → those (pairs_of xs) ≡ log → AllAs (IsNamed s) (pairs_of xs) → IsPermutation xs ys
       → IsSortedBy (λ x y. is_lt (ordering_then (ordering_then (bool_cmp (is_of_text (held_entry x.held)) (is_of_text (held_entry y.held))) (slice_cmp nat_cmp x.name.now y.name.now)) (slice_cmp nat_cmp x.held.path.now y.held.path.now))) ys
-      → IsCompact log → Fits log s → log_lines asked log s ≡ flat_map (told_of asked s) (pairs_of ys)
+      → IsCompact log → Fits log s → log_lines asked log s ≡ flat_map (asked_lines asked s) (pairs_of ys)
   found_told log xs ys is named perm up compact fits =
       sorted_told asked s trees_are texts_are log (pairs_of xs) (pairs_of ys) is named (IsPermutation-map (λ x. (x.name.now, held_entry x.held)) xs ys perm)
-      (sorted_keyed (λ (x : Named). x.name.now) (λ (x : Named). x.held.path.now) (λ (x : Named). held_entry x.held) (λ x. own_path x.held.slot x.held.path.now x.held.kept.now) ys up) compact fits
+      (sorted_keyed (λ (x : NamedEntry). x.name.now) (λ (x : NamedEntry). x.held.path.now) (λ (x : NamedEntry). held_entry x.held) (λ x. own_path x.held.slot x.held.path.now x.held.kept.now) ys up) compact fits

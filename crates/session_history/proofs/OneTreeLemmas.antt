@@ -8,9 +8,9 @@ use Rattle.term_core.proofs.TreeLemmas.{to_list-of_list, of_list-to_list}
 use Rattle.term_paths.specs.Paths.{at, set_at, set_annotations_at}
 use Rattle.term_paths.proofs.PathLemmas.{changed_at, set_at-changed, set_annotations_at-changed}
 use Rattle.term_changes.specs.Entries.{Entry, slot_tree, subterm, subterm_annotations, slot_text}
-use Rattle.session_history.specs.Differences.{Difference, noted, differences, differences_from}
+use Rattle.session_history.specs.Differences.{Difference, annotated, differences, differences_from}
 use Rattle.session_history.specs.inside.Lined.{same_root}
-use Rattle.session_history.proofs.DifferenceLemmas.{as_many_count, as_many_by, differences_same, differ_below, noted_same, root_same, root_kept, child_kept, child_notes}
+use Rattle.session_history.proofs.DifferenceLemmas.{as_many_count, as_many_by, differences_same, differ_below, annotated_same, root_same, root_kept, child_kept, child_notes}
 use Rattle.session_history.proofs.AgreeLemmas.{Along, Later, change_differs, along_itself, later_kept}
 
 -- ---- one entry
@@ -32,7 +32,7 @@ path_of (slot_text i y) = []
 abbrev pub told_at : Entry → List ℕ → Tree → List Difference
 told_at (slot_tree i t) p w = []
 told_at (subterm i q t) p w = differences p t w
-told_at (subterm_annotations i q ts) p w = noted p (of_list ts) (of_list (annotations w))
+told_at (subterm_annotations i q ts) p w = annotated p (of_list ts) (of_list (annotations w))
 told_at (slot_text i y) p w = []
 
 -- whether there may be entries below its place
@@ -62,12 +62,12 @@ pub told_at_end : (e : Entry) (q : List ℕ) (t u : Tree) → Agrees e t u → d
 told_at_end (slot_tree i x) q t u h = refl
 told_at_end (subterm i p x) q t u h = sym (append-nil (differences q x u)) ∙ ap (λ l. differences q x u ++ l) (sym (same_trees_differ q t u h))
 told_at_end (subterm_annotations i p ts) q t u h =
-    let noted_now = root_kept t ts in
+    let annotations_now = root_kept t ts in
     let below = differences_from q 0 (of_list (children t)) (of_list (children u)) in
-    differ_below q (with_annotations t ts) u (noted_now.0 u ∙ h.0)
-    ∙ (λ k. noted q (of_list (noted_now.1 k)) (of_list (annotations u)) ++ differences_from q 0 (of_list (noted_now.2 k)) (of_list (children u)))
-    ∙ ap (λ l. noted q (of_list ts) (of_list (annotations u)) ++ l)
-    (ap (λ l. l ++ below) (sym (noted_same q (of_list (annotations u))) ∙ (λ k. noted q (of_list (sym h.1 k)) (of_list (annotations u)))) ∙ sym (differ_below q t u h.0))
+    differ_below q (with_annotations t ts) u (annotations_now.0 u ∙ h.0)
+    ∙ (λ k. annotated q (of_list (annotations_now.1 k)) (of_list (annotations u)) ++ differences_from q 0 (of_list (annotations_now.2 k)) (of_list (children u)))
+    ∙ ap (λ l. annotated q (of_list ts) (of_list (annotations u)) ++ l)
+    (ap (λ l. l ++ below) (sym (annotated_same q (of_list (annotations u))) ∙ (λ k. annotated q (of_list (sym h.1 k)) (of_list (annotations u)))) ∙ sym (differ_below q t u h.0))
 told_at_end (slot_text i y) q t u h = refl
 
 root_below : (g : Tree → Tree) (t u : Tree) (j : ℕ) (r : List ℕ) → (same_root t u ≡ true) × (annotations t ≡ annotations u)

@@ -11,9 +11,9 @@ use Rattle.term_changes.specs.declared.reading.Next.{Next}
 use Rattle.term_changes.specs.declared.reading.Next.TheVariants.{Term, Node}
 use Rattle.term_changes.proofs.FollowLemmas.{length-changed}
 use Rattle.term_changes.proofs.WalkLemmas.{changed_nowhere}
-use Rattle.session_history.specs.Differences.{Difference, noted, differences, differences_from}
+use Rattle.session_history.specs.Differences.{Difference, annotated, differences, differences_from}
 use Rattle.session_history.specs.inside.ReadPatches.{kids_of, change_of, differences_of}
-use Rattle.session_history.proofs.DifferenceLemmas.{trees_same, as_many_by, differences_same, from_same, noted_same}
+use Rattle.session_history.proofs.DifferenceLemmas.{trees_same, as_many_by, differences_same, from_same, annotated_same}
 
 -- a node that is changed inside
 pub node_differs : (path : List ℕ) (cs : Changes) (t : Tree)

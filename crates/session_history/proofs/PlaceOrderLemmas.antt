@@ -4,8 +4,8 @@ use Rattle.std.specs.Ordering.{int_eq}
 use Rattle.term_core.specs.Tree.{Tree, Trees, integer, branch, none, more}
 use Rattle.strategy_meaning.specs.Same.{same_head, same_trees}
 use Rattle.strategy_meaning.specs.Outermost.{IsBefore}
-use Rattle.session_history.specs.Differences.{Difference, parts, notes, as_many, noted, differences, differences_from}
-use Rattle.session_history.specs.DifferenceLaws.{place, IsBelowNotes, ComesFirst, AreInPlaceOrder, DifferencesAreInOrder}
+use Rattle.session_history.specs.Differences.{Difference, subterms_differ, annotations_differ, as_many, annotated, differences, differences_from}
+use Rattle.session_history.specs.DifferenceLaws.{place, IsBelowAnnotated, ComesFirst, AreInPlaceOrder, DifferencesAreInOrder}
 
 abbrev AllAt : (List ℕ → Type 0) → List Difference → Type 0
 AllAt P [] = Unit {0}
@@ -37,21 +37,21 @@ child_below p q i h = (i, h.0, omega arith, h.1 ∙ append_assoc p (i ∷ []) h.
 later_below : (p q : List ℕ) (i : ℕ) → IsBelow p (i + 1) q → IsBelow p i q
 later_below p q i h = let l = h.2 in (h.0, h.1, omega arith, h.3)
 
-noted_from : (p : List ℕ) (ns ms : Trees) → AllAt (IsFrom p) (noted p ns ms)
-noted_from p ns ms = elim (same_trees ns ms) as (λ b. AllAt (IsFrom p) (if b then [] else notes p ns ms ∷ [])) [ true ↦ tt | false ↦ (([], sym (append-nil p)), tt) ]
+annotated_from : (p : List ℕ) (ns ms : Trees) → AllAt (IsFrom p) (annotated p ns ms)
+annotated_from p ns ms = elim (same_trees ns ms) as (λ b. AllAt (IsFrom p) (if b then [] else annotations_differ p ns ms ∷ [])) [ true ↦ tt | false ↦ (([], sym (append-nil p)), tt) ]
 
 mutual
   tree_from : (p : List ℕ) (t u : Tree) → AllAt (IsFrom p) (differences p t u)
   tree_from p (integer y ns) (integer z ms) =
-      elim (int_eq y z) as (λ b. AllAt (IsFrom p) (if b then noted p ns ms else parts p (integer y ns) (integer z ms) ∷ [])) [
-        | true ↦ noted_from p ns ms
+      elim (int_eq y z) as (λ b. AllAt (IsFrom p) (if b then annotated p ns ms else subterms_differ p (integer y ns) (integer z ms) ∷ [])) [
+        | true ↦ annotated_from p ns ms
         | false ↦ (([], sym (append-nil p)), tt)
       ]
   tree_from p (integer y ns) (branch k vs ms) = (([], sym (append-nil p)), tt)
   tree_from p (branch h us ns) (integer z ms) = (([], sym (append-nil p)), tt)
   tree_from p (branch h us ns) (branch k vs ms) =
-      elim (same_head h k && as_many us vs) as (λ b. AllAt (IsFrom p) (if b then noted p ns ms ++ differences_from p 0 us vs else parts p (branch h us ns) (branch k vs ms) ∷ [])) [
-        | true ↦ all_append (IsFrom p) (noted p ns ms) (differences_from p 0 us vs) (noted_from p ns ms)
+      elim (same_head h k && as_many us vs) as (λ b. AllAt (IsFrom p) (if b then annotated p ns ms ++ differences_from p 0 us vs else subterms_differ p (branch h us ns) (branch k vs ms) ∷ [])) [
+        | true ↦ all_append (IsFrom p) (annotated p ns ms) (differences_from p 0 us vs) (annotated_from p ns ms)
             (all_weaker (IsBelow p 0) (IsFrom p) (λ q. below_from p q 0) (differences_from p 0 us vs) (trees_below p 0 us vs))
         | false ↦ (([], sym (append-nil p)), tt)
       ]
@@ -91,26 +91,26 @@ children_first p i (d ∷ ds) es h o g w =
     let e = h.0.1 ∙ append_assoc p (i ∷ []) h.0.0 in
     (first_append d ds es o.0 (first_before p i d h.0.0 e es g), children_first p i ds es h.1 o.1 g w)
 
-notes_first : (p : List ℕ) (ns ms : Trees) (es : List Difference) → AllAt (IsBelow p 0) es → ComesFirst (notes p ns ms) es
-notes_first p ns ms [] h = tt
-notes_first p ns ms (e ∷ es) h = (inr (h.0.0, h.0.1, h.0.3), notes_first p ns ms es h.1)
+annotations_first : (p : List ℕ) (ns ms : Trees) (es : List Difference) → AllAt (IsBelow p 0) es → ComesFirst (annotations_differ p ns ms) es
+annotations_first p ns ms [] h = tt
+annotations_first p ns ms (e ∷ es) h = (inr (h.0.0, h.0.1, h.0.3), annotations_first p ns ms es h.1)
 
-noted_first : (p : List ℕ) (ns ms : Trees) (es : List Difference) → AllAt (IsBelow p 0) es → AreInPlaceOrder es → AreInPlaceOrder (noted p ns ms ++ es)
-noted_first p ns ms es h o =
-    elim (same_trees ns ms) as (λ b. AreInPlaceOrder ((if b then [] else notes p ns ms ∷ []) ++ es)) [ true ↦ o | false ↦ (notes_first p ns ms es h, o) ]
+annotated_first : (p : List ℕ) (ns ms : Trees) (es : List Difference) → AllAt (IsBelow p 0) es → AreInPlaceOrder es → AreInPlaceOrder (annotated p ns ms ++ es)
+annotated_first p ns ms es h o =
+    elim (same_trees ns ms) as (λ b. AreInPlaceOrder ((if b then [] else annotations_differ p ns ms ∷ []) ++ es)) [ true ↦ o | false ↦ (annotations_first p ns ms es h, o) ]
 
-noted_order : (p : List ℕ) (ns ms : Trees) → AreInPlaceOrder (noted p ns ms)
-noted_order p ns ms = elim (same_trees ns ms) as (λ b. AreInPlaceOrder (if b then [] else notes p ns ms ∷ [])) [ true ↦ tt | false ↦ (tt, tt) ]
+annotated_order : (p : List ℕ) (ns ms : Trees) → AreInPlaceOrder (annotated p ns ms)
+annotated_order p ns ms = elim (same_trees ns ms) as (λ b. AreInPlaceOrder (if b then [] else annotations_differ p ns ms ∷ [])) [ true ↦ tt | false ↦ (tt, tt) ]
 
 mutual
   tree_order : (p : List ℕ) (t u : Tree) → AreInPlaceOrder (differences p t u)
   tree_order p (integer y ns) (integer z ms) =
-      elim (int_eq y z) as (λ b. AreInPlaceOrder (if b then noted p ns ms else parts p (integer y ns) (integer z ms) ∷ [])) [ true ↦ noted_order p ns ms | false ↦ (tt, tt) ]
+      elim (int_eq y z) as (λ b. AreInPlaceOrder (if b then annotated p ns ms else subterms_differ p (integer y ns) (integer z ms) ∷ [])) [ true ↦ annotated_order p ns ms | false ↦ (tt, tt) ]
   tree_order p (integer y ns) (branch k vs ms) = (tt, tt)
   tree_order p (branch h us ns) (integer z ms) = (tt, tt)
   tree_order p (branch h us ns) (branch k vs ms) =
-      elim (same_head h k && as_many us vs) as (λ b. AreInPlaceOrder (if b then noted p ns ms ++ differences_from p 0 us vs else parts p (branch h us ns) (branch k vs ms) ∷ [])) [
-        | true ↦ noted_first p ns ms (differences_from p 0 us vs) (trees_below p 0 us vs) (trees_order p 0 us vs)
+      elim (same_head h k && as_many us vs) as (λ b. AreInPlaceOrder (if b then annotated p ns ms ++ differences_from p 0 us vs else subterms_differ p (branch h us ns) (branch k vs ms) ∷ [])) [
+        | true ↦ annotated_first p ns ms (differences_from p 0 us vs) (trees_below p 0 us vs) (trees_order p 0 us vs)
         | false ↦ (tt, tt)
       ]
 

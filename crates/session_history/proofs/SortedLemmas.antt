@@ -17,7 +17,7 @@ use Rattle.change_log.proofs.MergeLemmas.{ApartFrom}
 use Rattle.change_log.proofs.ChosenLemmas.{AllApart}
 use Rattle.change_log.proofs.SwapLemmas.{permuted}
 use Rattle.session_history.specs.Differences.{changes_of}
-use Rattle.session_history.specs.inside.Told.{log_lines, told_of, is_of_text, those, AllAs, IsNamed}
+use Rattle.session_history.specs.inside.Told.{log_lines, asked_lines, is_of_text, those, AllAs, IsNamed}
 use Rattle.session_history.proofs.OneTreeLemmas.{path_of}
 use Rattle.session_history.proofs.LogTold.{Comes, ComeInOrder, log_told, same_slot}
 use Rattle.session_history.proofs.OrderedLemmas.{NotAfter, comes}
@@ -91,7 +91,7 @@ all_in_order s (p ∷ ps) named apart le =
 
 module _ (asked : Option (List ℕ)) (s : Store) (trees_are : HaveDistinctLabels s.trees) (texts_are : HaveDistinctLabels s.modules) where
   pub sorted_told : (log : List Entry) (ps qs : List (List ℕ × Entry)) → those ps ≡ log → AllAs (IsNamed s) ps → IsPermutation ps qs → AreKeyed qs → IsCompact log → Fits log s
-      → log_lines asked log s ≡ flat_map (told_of asked s) qs
+      → log_lines asked log s ≡ flat_map (asked_lines asked s) qs
   sorted_told log ps qs is named perm le compact fits =
       let named_too : AllAs (IsNamed s) qs =
       from_all (IsNamed s) qs (All-permutation (λ p. IsNamed s p.0 p.1) ps qs perm (all_at (IsNamed s) ps named)) in

@@ -22,26 +22,26 @@ use Rattle.session_modules.specs.declared.refusal.Refusal.TheVariants.{NoUndo}
 -- A place where two trees differ: the subterms there, if these differ in head or in the number of
 -- children; else their annotations.
 pub data Difference : Type 0 where
-  parts : List ℕ → Tree → Tree → Difference
-  notes : List ℕ → Trees → Trees → Difference
+  subterms_differ : List ℕ → Tree → Tree → Difference
+  annotations_differ : List ℕ → Trees → Trees → Difference
 
 abbrev pub as_many : Trees → Trees → Bool
 as_many none none = true
 as_many (more t ts) (more u us) = as_many ts us
 as_many ts us = false
 
-abbrev pub noted : List ℕ → Trees → Trees → List Difference
-noted path ts us = if same_trees ts us then [] else notes path ts us ∷ []
+abbrev pub annotated : List ℕ → Trees → Trees → List Difference
+annotated path ts us = if same_trees ts us then [] else annotations_differ path ts us ∷ []
 
 abbrev mutual
   -- the places where a tree differs from another, in their order; both are at this path
   pub differences : List ℕ → Tree → Tree → List Difference
   differences path (integer y ns) (integer z ms) =
-      if int_eq y z then noted path ns ms else parts path (integer y ns) (integer z ms) ∷ []
+      if int_eq y z then annotated path ns ms else subterms_differ path (integer y ns) (integer z ms) ∷ []
   differences path (branch h us ns) (branch k vs ms) =
-      if same_head h k && as_many us vs then noted path ns ms ++ differences_from path 0 us vs
-      else parts path (branch h us ns) (branch k vs ms) ∷ []
-  differences path t u = parts path t u ∷ []
+      if same_head h k && as_many us vs then annotated path ns ms ++ differences_from path 0 us vs
+      else subterms_differ path (branch h us ns) (branch k vs ms) ∷ []
+  differences path t u = subterms_differ path t u ∷ []
 
   -- the same for children of one parent, from number i on
   pub differences_from : List ℕ → ℕ → Trees → Trees → List Difference
@@ -60,8 +60,8 @@ abbrev pub in_braces : Trees → List ℕ
 in_braces ts = open_curly ∷ print_all ts ++ close_curly ∷ []
 
 abbrev pub difference_line : List ℕ → Difference → List ℕ
-difference_line name (parts path t u) = change_line name path (print t) (print u)
-difference_line name (notes path ts us) = change_line name path (in_braces ts) (in_braces us)
+difference_line name (subterms_differ path t u) = change_line name path (print t) (print u)
+difference_line name (annotations_differ path ts us) = change_line name path (in_braces ts) (in_braces us)
 
 -- how the tree of a name changed
 abbrev pub tree_lines : List ℕ → Option Tree → Option Tree → List (List ℕ)

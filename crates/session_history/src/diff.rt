@@ -14,10 +14,10 @@ ghost use Rattle.session_history.specs.Moving.{KeepsHistory};
 ghost use Rattle.session_history.specs.Unfolded.{unfolded};
 ghost use Rattle.session_history.specs.inside.Lined.{AddsLines};
 ghost use Rattle.session_history.specs.inside.NamedPairs.{pairs_of};
-ghost use Rattle.session_history.specs.inside.Told.{entry_lines, log_lines, told_of, is_of_text, those, AllAs, HasSlot, IsNamed, IsAsked};
+ghost use Rattle.session_history.specs.inside.Told.{entry_lines, log_lines, asked_lines, is_of_text, those, AllAs, HasSlot, IsNamed, IsAsked};
 
 use crate::differences::{add_annotations, add_differences, add_text, add_tree};
-use crate::lines::{Lines, put_count};
+use crate::lines::{CountedLines, put_count};
 use crate::patches::add_patch;
 use crate::{Refusal, Timeline};
 use change_log::{Changes, Held, Kept, Log, Parts, Store, Text, Whole};
@@ -45,9 +45,9 @@ impl Timeline {
         self.compact_group();
         let start = out.len();
         let text = mem::replace(out, Vec::new(self.allocator()));
-        let mut lines = Lines { text, count: 0 };
+        let mut lines = CountedLines { text, count: 0 };
         let added = self.add_changes(name, &mut lines);
-        let Lines { text, count } = lines;
+        let CountedLines { text, count } = lines;
         *out = text;
         match added {
             Ok(()) => Ok(put_count(start, count, out)?),
@@ -56,7 +56,7 @@ impl Timeline {
     }
 
     // Adds the lines of the open group or else of the last step.
-    fn add_changes(&self, name: Option<&Label>, lines: &mut Lines) -> Result<(), Refusal>
+    fn add_changes(&self, name: Option<&Label>, lines: &mut CountedLines) -> Result<(), Refusal>
         requires { IsSome self.now.group → IsCompact self.now.current }
         ensures ok { OnOk result ((ps : List Signature) → (base : Contents) × (base_of (unfolded ps self.now) ≡ Ok base)
             × AddsLines (changes_of (option_copied name.entry) base (contents self.now.store)) lines.old lines.new) }
@@ -70,7 +70,7 @@ impl Timeline {
         }
     }
 
-    fn add_step(&self, name: Option<&Label>, lines: &mut Lines) -> Result<(), Refusal>
+    fn add_step(&self, name: Option<&Label>, lines: &mut CountedLines) -> Result<(), Refusal>
         requires { self.now.group ≡ None }
         ensures ok { OnOk result ((ps : List Signature) → (base : Contents) × (base_of (unfolded ps self.now) ≡ Ok base)
             × AddsLines (changes_of (option_copied name.entry) base (contents self.now.store)) lines.old lines.new) }
@@ -90,7 +90,7 @@ fn add_entries(
     store: &Store,
     changes: &Changes,
     name: Option<&Label>,
-    lines: &mut Lines,
+    lines: &mut CountedLines,
 ) -> Result<(), NoMemory>
     requires fits { Fits (entries_of changes.now) store.now }
     requires compact { IsCompact (entries_of changes.now) }
@@ -138,7 +138,7 @@ fn add_whole(
     store: &Store,
     whole: &Whole,
     name: Option<&Label>,
-    lines: &mut Lines,
+    lines: &mut CountedLines,
 ) -> Result<(), NoMemory>
     requires { Fits (whole_entry whole.now ∷ []) store.now }
     ensures ok { OnOk result (AddsLines (log_lines (option_copied name.entry) (whole_entry whole.now ∷ []) store.now) lines.old lines.new) }
@@ -151,7 +151,7 @@ fn add_whole(
         kept: &whole.kept,
     };
     match name_of(store, held) {
-        Some(label) => add_named(store, &[Named { name: label, held }], name, lines),
+        Some(label) => add_named(store, &[NamedEntry { name: label, held }], name, lines),
         None => Ok(()),
     }
 }
@@ -160,7 +160,7 @@ fn add_parts(
     store: &Store,
     parts: &Parts,
     name: Option<&Label>,
-    lines: &mut Lines,
+    lines: &mut CountedLines,
 ) -> Result<(), NoMemory>
     ensures ok { OnOk result (AddsLines (log_lines (option_copied name.entry) (part_entries parts.now) store.now) lines.old lines.new) }
     ensures room { vec_capacity lines.old.text ≤ vec_capacity lines.new.text }
@@ -188,7 +188,7 @@ fn add_log(
     store: &Store,
     log: &Log,
     name: Option<&Label>,
-    lines: &mut Lines,
+    lines: &mut CountedLines,
 ) -> Result<(), NoMemory>
     requires fits { Fits log.now store.now }
     requires compact { IsCompact log.now }
@@ -203,13 +203,17 @@ fn add_log(
 
 // An entry, and the name that it is of.
 #[derive(Clone, Copy)]
-struct Named<'a> {
+struct NamedEntry<'a> {
     name: &'a Label,
     held: Held<'a>,
 }
 
 // The entries of the log, with their names.
-fn find_names<'a>(store: &'a Store, log: &'a Log, alloc: Global) -> Result<Vec<Named<'a>>, NoMemory>
+fn find_names<'a>(
+    store: &'a Store,
+    log: &'a Log,
+    alloc: Global,
+) -> Result<Vec<NamedEntry<'a>>, NoMemory>
     requires { Fits log.now store.now }
     ensures log { IfOk result (λ found. those (pairs_of found.items) ≡ log.now) }
     ensures names { IfOk result (λ found. AllAs (IsNamed store.now) (pairs_of found.items)) }
@@ -220,7 +224,7 @@ fn find_names<'a>(store: &'a Store, log: &'a Log, alloc: Global) -> Result<Vec<N
         let Some(name) = name_of(store, held) else {
             unreachable!()
         };
-        found.push(Named { name, held })?;
+        found.push(NamedEntry { name, held })?;
     }
     Ok(found)
 }
@@ -228,11 +232,11 @@ fn find_names<'a>(store: &'a Store, log: &'a Log, alloc: Global) -> Result<Vec<N
 // Adds the lines of these entries, those of the name or all.
 fn add_named(
     store: &Store,
-    entries: &[Named<'_>],
+    entries: &[NamedEntry<'_>],
     name: Option<&Label>,
-    lines: &mut Lines,
+    lines: &mut CountedLines,
 ) -> Result<(), NoMemory>
-    ensures ok { OnOk result (AddsLines (flat_map (told_of (option_copied name.entry) store.now) (pairs_of entries.now)) lines.old lines.new) }
+    ensures ok { OnOk result (AddsLines (flat_map (asked_lines (option_copied name.entry) store.now) (pairs_of entries.now)) lines.old lines.new) }
     ensures room { vec_capacity lines.old.text ≤ vec_capacity lines.new.text }
 {
     let mut path = Vec::new(lines.allocator());
@@ -245,12 +249,12 @@ fn add_named(
 // Adds the lines of one entry, if its name is asked for. The path is scratch.
 fn add_asked(
     store: &Store,
-    it: Named<'_>,
+    it: NamedEntry<'_>,
     name: Option<&Label>,
     path: &mut Vec<usize>,
-    lines: &mut Lines,
+    lines: &mut CountedLines,
 ) -> Result<(), NoMemory>
-    ensures ok { OnOk result (AddsLines (told_of (option_copied name.entry) store.now (it.entry.name.now, held_entry it.entry.held)) lines.old lines.new) }
+    ensures ok { OnOk result (AddsLines (asked_lines (option_copied name.entry) store.now (it.entry.name.now, held_entry it.entry.held)) lines.old lines.new) }
     ensures room { vec_capacity lines.old.text ≤ vec_capacity lines.new.text }
 {
     if !is_asked(name, it.name) {
@@ -271,7 +275,7 @@ fn add_held(
     name: &[u8],
     held: Held<'_>,
     path: &mut Vec<usize>,
-    lines: &mut Lines,
+    lines: &mut CountedLines,
 ) -> Result<(), NoMemory>
     ensures ok { OnOk result (AddsLines (entry_lines store.now name.now (held_entry held.entry)) lines.old lines.new) }
     ensures room { vec_capacity lines.old.text ≤ vec_capacity lines.new.text }

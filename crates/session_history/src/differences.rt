@@ -2,10 +2,10 @@
 
 ghost use Rattle.std.specs.Prelude.{◌≡◌, ◌≤◌, ◌↔◌, ◌∷◌, [], IsTrue, OnOk, map, length, option_copied, vec_capacity};
 ghost use Rattle.term_core.specs.Tree.{of_list};
-ghost use Rattle.session_history.specs.Differences.{differences as differences_of, differences_from, noted, difference_line, tree_lines, text_lines};
+ghost use Rattle.session_history.specs.Differences.{differences as differences_of, differences_from, annotated, difference_line, tree_lines, text_lines};
 ghost use Rattle.session_history.specs.inside.Lined.{AddsLines, same_root, same_kind};
 
-use crate::lines::{Lines, Side};
+use crate::lines::{CountedLines, Side};
 use term_core::{Kind, NoMemory, Term};
 
 /// Adds the lines of the tree of a name.
@@ -14,7 +14,7 @@ pub(crate) fn add_tree(
     path: &mut Vec<usize>,
     old: Option<&Term>,
     new: Option<&Term>,
-    lines: &mut Lines,
+    lines: &mut CountedLines,
 ) -> Result<(), NoMemory>
     requires { path.old.items ≡ [] }
     ensures ok { OnOk result (AddsLines (tree_lines name.now (option_copied old.entry) (option_copied new.entry)) lines.old lines.new) }
@@ -34,7 +34,7 @@ pub(crate) fn add_text(
     name: &[u8],
     old: Option<&[u8]>,
     new: Option<&[u8]>,
-    lines: &mut Lines,
+    lines: &mut CountedLines,
 ) -> Result<(), NoMemory>
     ensures ok { OnOk result (AddsLines (text_lines name.now (option_copied old.entry) (option_copied new.entry)) lines.old lines.new) }
     ensures room { vec_capacity lines.old.text ≤ vec_capacity lines.new.text }
@@ -56,7 +56,7 @@ pub(crate) fn add_differences(
     path: &mut Vec<usize>,
     old: &Term,
     new: &Term,
-    lines: &mut Lines,
+    lines: &mut CountedLines,
 ) -> Result<(), NoMemory>
     ensures ok { OnOk result (AddsLines (map (difference_line name.now) (differences_of path.old.items old.now new.now)) lines.old lines.new) }
     ensures path { OnOk result (path.new.items ≡ path.old.items) }
@@ -75,7 +75,7 @@ fn add_children(
     path: &mut Vec<usize>,
     old: &[Term],
     new: &[Term],
-    lines: &mut Lines,
+    lines: &mut CountedLines,
 ) -> Result<(), NoMemory>
     requires { length old.now ≡ length new.now }
     ensures ok { OnOk result (AddsLines (map (difference_line name.now) (differences_from path.old.items 0 (of_list old.now) (of_list new.now))) lines.old lines.new) }
@@ -96,9 +96,9 @@ pub(crate) fn add_annotations(
     path: &[usize],
     old: &[Term],
     new: &[Term],
-    lines: &mut Lines,
+    lines: &mut CountedLines,
 ) -> Result<(), NoMemory>
-    ensures ok { OnOk result (AddsLines (map (difference_line name.now) (noted path.now (of_list old.now) (of_list new.now))) lines.old lines.new) }
+    ensures ok { OnOk result (AddsLines (map (difference_line name.now) (annotated path.now (of_list old.now) (of_list new.now))) lines.old lines.new) }
     ensures room { vec_capacity lines.old.text ≤ vec_capacity lines.new.text }
 {
     if are_equal(old, new) {

@@ -14,7 +14,7 @@ use term_core::{NoMemory, Term};
 
 /// Lines of a text that are counted.
 #[derive(Drop)]
-pub(crate) struct Lines {
+pub(crate) struct CountedLines {
     pub(crate) text: Vec<u8>,
     pub(crate) count: u64,
     ghost counted: { count ≤ length text.items },
@@ -31,7 +31,7 @@ pub(crate) enum Side<'a> {
     Annotations(&'a [Term]),
 }
 
-impl Lines {
+impl CountedLines {
     pub(crate) fn allocator(&self) -> Global {
         *self.text.allocator()
     }

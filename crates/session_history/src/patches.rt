@@ -7,7 +7,7 @@ ghost use Rattle.session_history.specs.inside.Lined.{AddsLines};
 ghost use Rattle.session_history.specs.inside.ReadPatches.{kids_of, change_of, differences_of};
 
 use crate::differences::add_differences;
-use crate::lines::Lines;
+use crate::lines::CountedLines;
 use term_changes::{Next, Patch, Reader};
 use term_core::{NoMemory, Term};
 
@@ -18,7 +18,7 @@ pub(crate) fn add_patch(
     path: &mut Vec<usize>,
     patch: &Patch,
     tree: &Term,
-    lines: &mut Lines,
+    lines: &mut CountedLines,
 ) -> Result<(), NoMemory>
     ensures ok { OnOk result (AddsLines (map (difference_line name.now) (differences path.old.items (changed patch.now tree.now) tree.now)) lines.old lines.new) }
     ensures room { vec_capacity lines.old.text ≤ vec_capacity lines.new.text }
@@ -38,7 +38,7 @@ fn add_next(
     next: Next<'_>,
     reader: &mut Reader<'_>,
     tree: &Term,
-    lines: &mut Lines,
+    lines: &mut CountedLines,
 ) -> Result<(), NoMemory>
     requires { kids_of next ≤ length reader.old }
     ensures ok { OnOk result (AddsLines (map (difference_line name.now) (differences path.old.items (changed (change_of next.entry reader.old) tree.now) tree.now)) lines.old lines.new) }
@@ -60,7 +60,7 @@ fn add_kids(
     kids: usize,
     reader: &mut Reader<'_>,
     children: &[Term],
-    lines: &mut Lines,
+    lines: &mut CountedLines,
 ) -> Result<(), NoMemory>
     requires { kids ≤ length reader.old }
     ensures ok { OnOk result (AddsLines (map (difference_line name.now) (differences_of path.old.items 0 (take kids reader.old) children.now)) lines.old lines.new) }

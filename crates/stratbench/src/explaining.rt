@@ -73,7 +73,7 @@ impl<'a, W: Write> Explaining<'a, W> {
     }
 
     // The command as it stands in the script.
-    fn seen<'c>(&'c self, command: Piece<'c>) -> ScriptCommand<'c> {
+    fn script_command<'c>(&'c self, command: Piece<'c>) -> ScriptCommand<'c> {
         ScriptCommand {
             file: None,
             line: self.numbered.line(),
@@ -88,13 +88,18 @@ impl<'a, W: Write> Explaining<'a, W> {
     }
 
     fn explain<M: Meaning>(&mut self, session: &Session<M>, command: Piece<'_>, refusal: &Refusal) {
-        if let Ok(text) = explain(self.alloc, session.timeline(), &self.seen(command), refusal) {
+        if let Ok(text) = explain(
+            self.alloc,
+            session.timeline(),
+            &self.script_command(command),
+            refusal,
+        ) {
             show(&mut self.screen, &text);
         }
         if let Ok(text) = explain_run(
             self.alloc,
             &ground_of(session),
-            &self.seen(command),
+            &self.script_command(command),
             refusal,
         ) {
             show_more(&mut self.screen, &text);
@@ -116,7 +121,11 @@ impl<M: Meaning, W: Write> Watch<M> for Explaining<'_, W> {
     fn expected(&mut self, session: &Session<M>, command: Piece<'_>) {
         self.before = None;
         if self.wanted.profiles
-            && let Some(tree) = tree_of(self.alloc, session.timeline(), &self.seen(command))
+            && let Some(tree) = tree_of(
+                self.alloc,
+                session.timeline(),
+                &self.script_command(command),
+            )
             && let Ok(copy) = tree.try_clone()
         {
             self.before = Some(copy);
@@ -125,7 +134,11 @@ impl<M: Meaning, W: Write> Watch<M> for Explaining<'_, W> {
 
     fn accepted(&mut self, session: &Session<M>, command: Piece<'_>) {
         if self.wanted.explanations
-            && let Ok(text) = warn(self.alloc, session.timeline(), &self.seen(command))
+            && let Ok(text) = warn(
+                self.alloc,
+                session.timeline(),
+                &self.script_command(command),
+            )
         {
             show(&mut self.screen, &text);
         }
@@ -133,7 +146,7 @@ impl<M: Meaning, W: Write> Watch<M> for Explaining<'_, W> {
             && let Ok(text) = profile_run(
                 self.alloc,
                 &ground_of(session),
-                &self.seen(command),
+                &self.script_command(command),
                 tree,
             )
         {
@@ -174,7 +187,7 @@ pub fn explain_load<M: Meaning>(
     match explain(
         alloc,
         session.timeline(),
-        &seen_in_file(load, &command),
+        &file_command(load, &command),
         refusal,
     ) {
         Ok(said) => {
@@ -194,7 +207,7 @@ pub fn warn_of_load<M: Meaning>(
     text: &[u8],
 ) {
     if let Ok(command) = command_of(alloc, load, text) {
-        if let Ok(said) = warn(alloc, session.timeline(), &seen_in_file(load, &command)) {
+        if let Ok(said) = warn(alloc, session.timeline(), &file_command(load, &command)) {
             show(&mut screen, &said);
         }
     }
@@ -214,7 +227,7 @@ fn command_of(alloc: Global, load: &Load<'_>, text: &[u8]) -> Result<Vec<u8>, Al
     Ok(command)
 }
 
-fn seen_in_file<'a>(load: &'a Load<'_>, command: &'a [u8]) -> ScriptCommand<'a> {
+fn file_command<'a>(load: &'a Load<'_>, command: &'a [u8]) -> ScriptCommand<'a> {
     ScriptCommand {
         file: Some(load.file()),
         line: 0,

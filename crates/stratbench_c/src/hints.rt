@@ -91,7 +91,7 @@ impl Hints {
     }
 
     // The command that was completed last, as it stands in the script.
-    fn seen<'c>(&'c self, command: Piece<'c>) -> ScriptCommand<'c> {
+    fn script_command<'c>(&'c self, command: Piece<'c>) -> ScriptCommand<'c> {
         ScriptCommand {
             file: None,
             line: self.numbered.line(),
@@ -123,23 +123,23 @@ impl Hints {
         if !self.explains {
             return;
         }
-        let Ok(command) = command_of(self.alloc, word, name, text) else {
+        let Ok(bytes) = command_of(self.alloc, word, name, text) else {
             return;
         };
-        let seen = ScriptCommand {
+        let command = ScriptCommand {
             file: Some(str::from_utf8(name).unwrap_or("text")),
             line: 0,
             indent: 0,
             comments: &[],
-            text: &command,
+            text: &bytes,
             budget: MAX_BUDGET,
             framing: Framing::Continued,
             past: Past::new(),
             library: self.library,
         };
         let said = match outcome {
-            Ok(()) => warn(self.alloc, session.timeline(), &seen),
-            Err(refusal) => explain(self.alloc, session.timeline(), &seen, refusal),
+            Ok(()) => warn(self.alloc, session.timeline(), &command),
+            Err(refusal) => explain(self.alloc, session.timeline(), &command, refusal),
         };
         if let Ok(said) = said {
             self.add(&said);
@@ -176,7 +176,11 @@ impl<M: Meaning> Watch<M> for Hints {
         if !self.explains {
             return;
         }
-        let said = warn(self.alloc, session.timeline(), &self.seen(command));
+        let said = warn(
+            self.alloc,
+            session.timeline(),
+            &self.script_command(command),
+        );
         if let Ok(said) = said {
             self.add(&said);
         }
@@ -187,7 +191,12 @@ impl<M: Meaning> Watch<M> for Hints {
         if !self.explains {
             return;
         }
-        let said = explain(self.alloc, session.timeline(), &self.seen(command), refusal);
+        let said = explain(
+            self.alloc,
+            session.timeline(),
+            &self.script_command(command),
+            refusal,
+        );
         if let Ok(said) = said {
             self.add(&said);
         }
@@ -196,7 +205,7 @@ impl<M: Meaning> Watch<M> for Hints {
             program: session.kept_program(),
             primitives: session.primitives(),
         };
-        let why = explain_run(self.alloc, &ground, &self.seen(command), refusal);
+        let why = explain_run(self.alloc, &ground, &self.script_command(command), refusal);
         if let Ok(why) = why
             && let Some(lines) = why.strip_prefix(b"\n")
         {

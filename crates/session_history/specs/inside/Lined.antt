@@ -8,10 +8,10 @@ use Rattle.term_core.specs.declared.kind.Kind.{Kind}
 use Rattle.term_core.specs.declared.kind.Kind.TheVariants.{Integer, Application, List as AList, Tuple}
 use Rattle.strategy_meaning.specs.Same.{same_head}
 use Rattle.session_history.specs.Differences.{as_many}
-use Rattle.session_history.specs.declared.lines.Lines.{Lines}
+use Rattle.session_history.specs.declared.lines.CountedLines.{CountedLines}
 
 -- These lines were added.
-pub record AddsLines (lines : List (List ℕ)) (old new : Lines) : Type 0 where
+pub record AddsLines (lines : List (List ℕ)) (old new : CountedLines) : Type 0 where
   pub text : new.text.items ≡ old.text.items ++ flat_map (λ l. l) lines
   pub count : new.count ≡ old.count + length lines
 

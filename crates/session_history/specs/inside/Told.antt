@@ -8,7 +8,7 @@ use Rattle.term_core.specs.Tree.{annotations, of_list}
 use Rattle.prim_core.specs.Signature.{Signature}
 use Rattle.term_changes.specs.Slots.{Store, content, contents, slot_of}
 use Rattle.term_changes.specs.Entries.{Entry, slot_tree, subterm, subterm_annotations, slot_text, subterm_in, before, Fits}
-use Rattle.session_history.specs.Differences.{noted, differences, difference_line, tree_lines, text_lines, changes_of, base_of}
+use Rattle.session_history.specs.Differences.{annotated, differences, difference_line, tree_lines, text_lines, changes_of, base_of}
 use Rattle.session_history.specs.Unfolded.{Logged, unfolded}
 
 -- the lines of one entry, of which this is the name
@@ -17,7 +17,7 @@ entry_lines s name (slot_tree i old) = tree_lines name old (content s.trees i)
 entry_lines s name (subterm i path old) =
     option_map_or (λ new. map (difference_line name) (differences path old new)) (subterm_in s.trees i path) []
 entry_lines s name (subterm_annotations i path old) =
-    option_map_or (λ new. map (difference_line name) (noted path (of_list old) (of_list (annotations new)))) (subterm_in s.trees i path) []
+    option_map_or (λ new. map (difference_line name) (annotated path (of_list old) (of_list (annotations new)))) (subterm_in s.trees i path) []
 entry_lines s name (slot_text i old) = text_lines name old (content s.modules i)
 
 -- the lines of the changes from before a log
@@ -54,8 +54,8 @@ abbrev pub if_asked : {A : Type 0} → Option (List ℕ) → List ℕ → List A
 if_asked None n xs = xs
 if_asked (Some asked) n xs = if bytes_eq asked n then xs else []
 
-abbrev pub told_of : Option (List ℕ) → Store → List ℕ × Entry → List (List ℕ)
-told_of asked s p = if_asked asked p.0 (entry_lines s p.0 p.1)
+abbrev pub asked_lines : Option (List ℕ) → Store → List ℕ × Entry → List (List ℕ)
+asked_lines asked s p = if_asked asked p.0 (entry_lines s p.0 p.1)
 
 abbrev pub is_of_text : Entry → Bool
 is_of_text (slot_tree i o) = false

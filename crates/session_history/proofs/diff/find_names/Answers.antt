@@ -1,6 +1,6 @@
 use Rattle.std.proofs.Common.{◌≡◌, ◌++◌, ◌∷◌, true, false, ap, sym, subst, ◌∙◌, append-nil}
 use Rattle.change_log.specs.Reading.{held_entry}
-use Rattle.session_history.specs.declared.diff.Named.{Named}
+use Rattle.session_history.specs.declared.diff.NamedEntry.{NamedEntry}
 use Rattle.session_history.specs.inside.NamedPairs.{pairs_of}
 use Rattle.session_history.specs.inside.Told.{those, AllAs, HaveSlots, IsNamed}
 use Rattle.session_history.proofs.NamedTold.{found_more, named_more}
@@ -25,7 +25,7 @@ unreachable-requires c =
 pub loop-held-preserved : goal.loop-held-preserved
 loop-held-preserved c =
     let s = c.args.store.now in
-    let x : Named = record { name = c.in-Some-name_of.name; held = c.in-Some.held } in
+    let x : NamedEntry = record { name = c.in-Some-name_of.name; held = c.in-Some.held } in
     let items = c.in_ok-push.ensures.items in
     let slots : HaveSlots s (held_entry c.in-Some.held ∷ c.next.new.self) = subst (HaveSlots s) c.in-Some.ensures c.loop-held.invariant.slots in
     record {

@@ -5,28 +5,28 @@ use Rattle.std.proofs.lemmas.Result.{on_ok_weaker}
 use Rattle.term_core.specs.Tree.{Tree, integer, branch, of_list, children, annotations}
 use Rattle.term_core.specs.Size.{height, heights}
 use Rattle.term_core.proofs.TreeLemmas.{of_list-to_list, heights-take_more, heights-take}
-use Rattle.session_history.specs.Differences.{noted, differences, differences_from, difference_line}
+use Rattle.session_history.specs.Differences.{annotated, differences, differences_from, difference_line}
 use Rattle.session_history.specs.inside.Lined.{AddsLines, same_root}
-use Rattle.session_history.specs.declared.lines.Lines.{Lines}
+use Rattle.session_history.specs.declared.lines.CountedLines.{CountedLines}
 use Rattle.session_history.proofs.DifferenceLemmas.{differ_below, root_count, next_child, past_children}
 use Rattle.session_history.proofs.AddedLemmas.{adds_equal, adds_then, path_back}
 use Rattle.session_history.proofs.differences.+differences.Goals as goal
 
 -- first the annotations, and then the children
-below_lines : {T E : Type 0} (r : Result T E) (name path at : List ℕ) (t u : Tree) (ns ms ts us : List Tree) (a b c : Lines) → same_root t u ≡ true → at ≡ path
+below_lines : {T E : Type 0} (r : Result T E) (name path at : List ℕ) (t u : Tree) (ns ms ts us : List Tree) (a b c : CountedLines) → same_root t u ≡ true → at ≡ path
     → ns ≡ annotations t → ms ≡ annotations u → ts ≡ children t → us ≡ children u
-    → AddsLines (map (difference_line name) (noted at (of_list ns) (of_list ms))) a b
+    → AddsLines (map (difference_line name) (annotated at (of_list ns) (of_list ms))) a b
     → OnOk r (AddsLines (map (difference_line name) (differences_from path 0 (of_list ts) (of_list us))) b c)
     → OnOk r (AddsLines (map (difference_line name) (differences path t u)) a c)
 below_lines r name path at t u ns ms ts us a b c same here e f g h notes kids =
     let line = difference_line name in
-    let all : differences path t u ≡ noted at (of_list ns) (of_list ms) ++ differences_from path 0 (of_list ts) (of_list us) =
+    let all : differences path t u ≡ annotated at (of_list ns) (of_list ms) ++ differences_from path 0 (of_list ts) (of_list us) =
     differ_below path t u same
-    ∙ (λ k. noted (sym here k) (of_list (sym e k)) (of_list (sym f k)) ++ differences_from path 0 (of_list (sym g k)) (of_list (sym h k))) in
-    on_ok_weaker r (λ more. adds_then _ _ (map line (differences path t u)) a b c (ap (map line) all ∙ map-append line (noted at (of_list ns) (of_list ms)) (differences_from path 0 (of_list ts) (of_list us))) notes more) kids
+    ∙ (λ k. annotated (sym here k) (of_list (sym e k)) (of_list (sym f k)) ++ differences_from path 0 (of_list (sym g k)) (of_list (sym h k))) in
+    on_ok_weaker r (λ more. adds_then _ _ (map line (differences path t u)) a b c (ap (map line) all ∙ map-append line (annotated at (of_list ns) (of_list ms)) (differences_from path 0 (of_list ts) (of_list us))) notes more) kids
 
 -- one child more
-child_lines : (name path : List ℕ) (i : ℕ) (ts us : List Tree) (t u : Tree) (a b c : Lines) → i < length ts → i < length us → t ≡ get_or ts i t → u ≡ get_or us i u
+child_lines : (name path : List ℕ) (i : ℕ) (ts us : List Tree) (t u : Tree) (a b c : CountedLines) → i < length ts → i < length us → t ≡ get_or ts i t → u ≡ get_or us i u
     → AddsLines (map (difference_line name) (differences (path ++ i ∷ []) t u)) a b
     → AddsLines (map (difference_line name) (differences_from path (i + 1) (of_list (drop (i + 1) ts)) (of_list (drop (i + 1) us)))) b c
     → AddsLines (map (difference_line name) (differences_from path i (of_list (drop i ts)) (of_list (drop i us)))) a c

@@ -3,7 +3,7 @@ use Rattle.term_core.specs.Tree.{of_list}
 use Rattle.term_core.specs.Size.{height, heights}
 use Rattle.session_history.specs.Differences.{differences_from, difference_line}
 use Rattle.session_history.specs.inside.Lined.{AddsLines}
-use Rattle.session_history.specs.declared.lines.Lines.{Lines}
+use Rattle.session_history.specs.declared.lines.CountedLines.{CountedLines}
 use Rattle.session_history.proofs.differences.+differences.Given as goal
 
 abbrev pub decreases-add_differences : goal.decreases-add_differences
@@ -16,7 +16,7 @@ decreases-add_children l = 2 * heights (of_list l.old.now) + 2
 abbrev pub invariant-add_children-loop-i : goal.invariant-add_children-loop-i
 invariant-add_children-loop-i l = record {
   path : l.path.items ≡ l.initial.path.items;
-  lines : (c : Lines) → AddsLines (map (difference_line l.name) (differences_from l.initial.path.items l.i (of_list (drop l.i l.old)) (of_list (drop l.i l.new)))) l.lines c
+  lines : (c : CountedLines) → AddsLines (map (difference_line l.name) (differences_from l.initial.path.items l.i (of_list (drop l.i l.old)) (of_list (drop l.i l.new)))) l.lines c
       → AddsLines (map (difference_line l.name) (differences_from l.initial.path.items 0 (of_list l.old) (of_list l.new))) l.initial.lines c;
   room : vec_capacity l.initial.lines.text ≤ vec_capacity l.lines.text;
 }

@@ -1,20 +1,20 @@
 use Rattle.std.proofs.Common.{refl, ap, map}
 use Rattle.std.proofs.lemmas.Bool.{false≢true}
 use Rattle.term_core.specs.Tree.{of_list}
-use Rattle.session_history.specs.Differences.{notes, difference_line}
-use Rattle.session_history.proofs.DifferenceLemmas.{noted_equal, noted_apart}
+use Rattle.session_history.specs.Differences.{annotations_differ, difference_line}
+use Rattle.session_history.proofs.DifferenceLemmas.{annotated_equal, annotated_apart}
 use Rattle.session_history.proofs.AddedLemmas.{line_added, adds_equal}
 use Rattle.session_history.proofs.differences.add_annotations.Goals as goal
 
 pub returns-then-are_equal-clause-ok : goal.returns-then-are_equal-clause-ok
 returns-then-are_equal-clause-ok c =
-    adds_equal _ _ (ap (map (difference_line c.args.name.now)) (noted_equal c.args.path.now c.args.old.now c.args.new.now (c.if-are_equal.ensures.0 refl)))
+    adds_equal _ _ (ap (map (difference_line c.args.name.now)) (annotated_equal c.args.path.now c.args.old.now c.args.new.now (c.if-are_equal.ensures.0 refl)))
 
 pub returns-clause-ok : goal.returns-clause-ok
 returns-clause-ok c =
     let line = difference_line c.args.name.now in
     let ns = c.args.old.now in
     let ms = c.args.new.now in
-    line_added c.add_change.result (line (notes c.args.path.now (of_list ns) (of_list ms))) _ c.args.lines.now c.add_change.new.self
-    (ap (map line) (noted_apart c.args.path.now ns ms (λ e. false≢true (c.if-are_equal.ensures.1 e))))
+    line_added c.add_change.result (line (annotations_differ c.args.path.now (of_list ns) (of_list ms))) _ c.args.lines.now c.add_change.new.self
+    (ap (map line) (annotated_apart c.args.path.now ns ms (λ e. false≢true (c.if-are_equal.ensures.1 e))))
     c.add_change.ensures.text c.add_change.ensures.count

@@ -8,13 +8,13 @@ use Rattle.term_changes.specs.Reading.{IsNextItem, items_weight}
 use Rattle.session_history.specs.Differences.{differences, difference_line}
 use Rattle.session_history.specs.inside.Lined.{AddsLines}
 use Rattle.session_history.specs.inside.ReadPatches.{change_of, differences_of}
-use Rattle.session_history.specs.declared.lines.Lines.{Lines}
+use Rattle.session_history.specs.declared.lines.CountedLines.{CountedLines}
 use Rattle.session_history.proofs.AddedLemmas.{adds_equal, adds_then, path_back}
 use Rattle.session_history.proofs.PatchDifferences.{next_there, item_read, less_to_read, weight-left, items_left, place_missing, place_there, all_read, node_read}
 use Rattle.session_history.proofs.patches.+patches.Goals as goal
 
 -- one place more
-place_lines : (name path : List ℕ) (at : ℕ) (x : Item) (items rest : List Item) (us : List Tree) (u : Tree) (a b c : Lines) → items ≡ x ∷ rest → at + x.0 < length us → u ≡ get_or us (at + x.0) u
+place_lines : (name path : List ℕ) (at : ℕ) (x : Item) (items rest : List Item) (us : List Tree) (u : Tree) (a b c : CountedLines) → items ≡ x ∷ rest → at + x.0 < length us → u ≡ get_or us (at + x.0) u
     → AddsLines (map (difference_line name) (differences (path ++ (at + x.0) ∷ []) (changed x.1 u) u)) a b
     → AddsLines (map (difference_line name) (differences_of path (at + x.0 + 1) rest (drop (at + x.0 + 1) us))) b c
     → AddsLines (map (difference_line name) (differences_of path at items (drop at us))) a c

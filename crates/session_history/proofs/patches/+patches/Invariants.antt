@@ -3,7 +3,7 @@ use Rattle.term_changes.specs.Reading.{items_weight}
 use Rattle.session_history.specs.Differences.{difference_line}
 use Rattle.session_history.specs.inside.Lined.{AddsLines}
 use Rattle.session_history.specs.inside.ReadPatches.{differences_of}
-use Rattle.session_history.specs.declared.lines.Lines.{Lines}
+use Rattle.session_history.specs.declared.lines.CountedLines.{CountedLines}
 use Rattle.session_history.proofs.patches.+patches.Given as goal
 
 abbrev pub decreases-add_next : goal.decreases-add_next
@@ -18,7 +18,7 @@ invariant-add_kids-loop-k l = record {
   within : l.at ≤ length l.children;
   path : l.path.items ≡ l.initial.path.items;
   reader : l.reader ≡ drop l._k l.initial.reader;
-  lines : (c : Lines) → AddsLines (map (difference_line l.name) (differences_of l.initial.path.items l.at (drop l._k (take l.kids l.initial.reader)) (drop l.at l.children))) l.lines c
+  lines : (c : CountedLines) → AddsLines (map (difference_line l.name) (differences_of l.initial.path.items l.at (drop l._k (take l.kids l.initial.reader)) (drop l.at l.children))) l.lines c
       → AddsLines (map (difference_line l.name) (differences_of l.initial.path.items 0 (take l.kids l.initial.reader) l.children)) l.initial.lines c;
   room : vec_capacity l.initial.lines.text ≤ vec_capacity l.lines.text;
 }

@@ -1,7 +1,7 @@
 use Rattle.std.proofs.Common.{◌≡◌, ℕ, ◌≤◌, List, [], ◌∷◌, ◌++◌, length, ap, arith, append_assoc}
 use Rattle.std.proofs.lemmas.List.{length-append}
 use Rattle.std.proofs.lemmas.Result.{on_ok_weaker}
-use Rattle.session_history.proofs.lines.Lines.add_change.Goals as goal
+use Rattle.session_history.proofs.lines.CountedLines.add_change.Goals as goal
 
 appended : (count : ℕ) (old more new : List ℕ) → new ≡ old ++ more → count ≤ length old → count ≤ length new
 appended count old more new e h = omega (arith, h, ap length e, length-append old more)
