@@ -230,7 +230,7 @@ pub struct ScriptCommand<'a> {
     pub comments: &'a [u64],
     /// Its bytes; none if it is longer than 65,536.
     pub text: &'a [u8],
-    /// The budget of a command that names none.
+    /// The budget of commands that name none: a number of steps, at least 1.
     pub budget: u32,
     /// Where a command ends.
     pub framing: Framing,

@@ -51,8 +51,8 @@ pub fn dump_reads_back()
     printed_text_is_as_long();
 }
 
-/// Unless a session is made with other limits, a term fits if its size is at most 100,000, and a
-/// command may name a budget of up to 1,000,000 steps.
+/// By default a term fits if its level and height are together at most 1,000 and its size is at
+/// most 100,000; a command may name a budget from 1 to 1,000,000.
 pub fn limits_by_default()
     ensures session { (primitives : List Signature) → (empty_history primitives).limits ≡ default_limits }
     ensures terms { (level : ℕ) (t : Tree) → fits default_limits.max_terms level t
@@ -64,8 +64,8 @@ pub fn limits_by_default()
 /// The values of the bounds that definitions name: the height and the size of terms, the bytes of
 /// names, the open brackets in a term's text, the tokens of a strategy's or module's text, the
 /// bytes of commands, the steps of `undo` and `redo`, budgets, the reads of a run, and the least
-/// capacity of an answer's buffer. Of the size and of budgets both are there: by default, and the
-/// greatest that options give.
+/// capacity of an answer's buffer. Size and budget have two bounds: the default, and the greatest
+/// that options allow.
 pub fn bounds()
     ensures height { MAX_HEIGHT ≡ 1000 }
     ensures size { MAX_SIZE ≡ 100000 }

@@ -44,7 +44,7 @@ impl Answer {
         self.push(b'\n')
     }
 
-    /// Writes what the last step changed, in all or of the name.
+    /// Writes what the last step changed, or only what it changed of the name.
     pub(crate) fn write_diff<M: Meaning>(
         &mut self,
         session: &mut Session<M>,

@@ -28,7 +28,7 @@ pub const PIECE: usize = 4096;
 /// How a script is run.
 #[derive(Clone, Copy, Debug, PartialEq, Eq)]
 pub struct Settings {
-    /// The budget of commands that name none.
+    /// The budget of commands that name none: a number of steps, at least 1.
     pub steps: u32,
     /// Whether the run ends after the first refused command.
     pub stop: bool,

@@ -31,7 +31,8 @@ pub data Form : Type 0 where
   abandon : Form  -- undoes the changes of the group
   show : List ℕ → List ℕ → Form  -- shows the subterm at the path of the name's tree
   pretty : List ℕ → List ℕ → Form  -- shows it over lines
-  diff : Option (List ℕ) → Form  -- shows what the last step changed, in all or of the name
+  -- shows what the last step changed, or only what it changed of the name
+  diff : Option (List ℕ) → Form
   trees : Form  -- lists the names of the trees
   modules : Form  -- lists the names of the modules
   module_text : List ℕ → Form  -- shows the text of the name's module
@@ -84,7 +85,7 @@ abbrev pub up_to : ℕ → List ℕ → Option ℕ
 up_to most digits =
     option_and_then (λ n. if nat_le 1 n && nat_le n most then Some n else None) (part_of digits)
 
--- A form that ends with a name, or here.
+-- A form that ends with a name or without one.
 abbrev pub optional_name : List ℕ → Option (Option (List ℕ))
 optional_name rest = if has_word rest then option_map Some (last_name rest) else Some None
 

@@ -63,7 +63,7 @@ pub enum Command<'a> {
     Show(Label, Path),
     /// Shows it over lines.
     Pretty(Label, Path),
-    /// Shows what the last step changed, in all or of the name.
+    /// Shows what the last step changed, or only what it changed of the name.
     Diff(Option<Label>),
     /// Lists the names of the trees.
     Trees,

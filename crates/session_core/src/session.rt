@@ -307,14 +307,16 @@ impl<M: Meaning> Session<M> {
     }
 
     /// Appends what the last step changed, in a group what that changed so far: `changes` and the
-    /// number of lines that follow; a line for each outermost place where a tree differs from the
-    /// one from before, with what was there and what is there now; and one for each module that
-    /// changed. Trees come before modules, each in byte order of the names. With a name these are
-    /// the lines of that name. Nothing changes.
+    /// number of lines that follow; a line for each outermost place where a tree differs in head or
+    /// number of children from the one before, and one for each place where these are the same but
+    /// the annotations differ, with what was there and what is there now; and one for each module
+    /// that changed. Trees come before modules, each in byte order of the names. With a name these
+    /// are the lines of that name. Nothing changes.
     ///
     /// For example, `changes 1` and `t/0 a => b` after `put t /0 b` over `f(a)`.
     ///
-    /// If there is no step, the refusal is `NoUndo`. A refusal may leave any bytes in `out`.
+    /// The refusal is `NoUndo` if no group is open and there is no step to undo. A refusal may
+    /// leave any bytes in `out`.
     pub fn diff(&mut self, name: Option<&Label>, out: &mut Vec<u8>) -> Result<(), Refusal>
         ensures same { self.new ≡ self.old }
         ensures ok { OnOk result (TellsChanges (option_copied name.entry) self.old out.old.items out.new.items) }

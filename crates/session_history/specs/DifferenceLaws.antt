@@ -28,7 +28,7 @@ abbrev pub place : Difference → List ℕ
 place (subterms_differ path t u) = path
 place (annotations_differ path ts us) = path
 
--- A place within this one: below annotations there may be others.
+-- The path leads below a place whose annotations differ.
 abbrev pub IsBelowAnnotated : Difference → List ℕ → Type 0
 IsBelowAnnotated (subterms_differ path t u) p = ⊥
 IsBelowAnnotated (annotations_differ path ts us) p = (i : ℕ) × (rest : List ℕ) × (p ≡ path ++ i ∷ rest)

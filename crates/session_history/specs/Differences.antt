@@ -25,11 +25,13 @@ pub data Difference : Type 0 where
   subterms_differ : List ℕ → Tree → Tree → Difference
   annotations_differ : List ℕ → Trees → Trees → Difference
 
+-- whether two lists of trees are of one length
 abbrev pub as_many : Trees → Trees → Bool
 as_many none none = true
 as_many (more t ts) (more u us) = as_many ts us
 as_many ts us = false
 
+-- the difference of the annotations of a place, if they differ
 abbrev pub annotated : List ℕ → Trees → Trees → List Difference
 annotated path ts us = if same_trees ts us then [] else annotations_differ path ts us ∷ []
 
@@ -56,9 +58,11 @@ abbrev pub change_line : List ℕ → List ℕ → List ℕ → List ℕ → Lis
 change_line name path old new =
     name ++ flat_map (λ i. 47 ∷ decimal i) path ++ 32 ∷ old ++ codes " => " ++ new ++ 10 ∷ []
 
+-- annotations, in braces
 abbrev pub in_braces : Trees → List ℕ
 in_braces ts = open_curly ∷ print_all ts ++ close_curly ∷ []
 
+-- the line of a difference in the tree of a name
 abbrev pub difference_line : List ℕ → Difference → List ℕ
 difference_line name (subterms_differ path t u) = change_line name path (print t) (print u)
 difference_line name (annotations_differ path ts us) = change_line name path (in_braces ts) (in_braces us)
@@ -70,6 +74,7 @@ tree_lines name None (Some u) = change_line name [] (codes "(none)") (print u) �
 tree_lines name (Some t) None = change_line name [] (print t) (codes "(none)") ∷ []
 tree_lines name (Some t) (Some u) = map (difference_line name) (differences [] t u)
 
+-- what became of the module of a name
 abbrev pub text_line : List ℕ → List ℕ → List ℕ
 text_line name what = codes "module " ++ name ++ 32 ∷ what ++ 10 ∷ []
 
@@ -86,6 +91,7 @@ text_lines name (Some x) (Some y) = if bytes_eq x y then [] else text_line name 
 abbrev pub names_of : {X : Type 0} → Named X → Named X → List (List ℕ)
 names_of a b = finmap.keys (finmap.from_entries {R = slice_cmp nat_cmp} (finmap.entries a ++ finmap.entries b))
 
+-- the lines of these names, one name after the other
 abbrev pub lines_of : {X : Type 0} → (List ℕ → Option X → Option X → List (List ℕ)) → Named X → Named X → List (List ℕ) → List (List ℕ)
 lines_of lines a b names = flat_map (λ name. lines name (finmap.get a name) (finmap.get b name)) names
 

@@ -28,13 +28,15 @@ use term_paths::at_parts;
 
 impl Timeline {
     /// Appends what the last step changed, or in a group what that changed so far: the number of
-    /// lines, and then a line for each outermost place where a tree differs from the one from
-    /// before, and for each module that changed. With a name these are only those of the name.
+    /// lines, and then a line for each outermost place where a tree differs in head or number of
+    /// children from the one before, one for each place where these are the same but the
+    /// annotations differ, and one for each module that changed. With a name these are only those
+    /// of the name.
     ///
     /// No term is copied. A step of several changes takes memory for a reference to each of them;
     /// those of an open group are compacted first.
     ///
-    /// Errors: `NoUndo` if there is no step; want of memory.
+    /// Errors: `NoUndo` if no group is open and there is no step to undo; want of memory.
     pub fn diff(&mut self, name: Option<&Label>, out: &mut Vec<u8>) -> Result<(), Refusal>
         ensures same { KeepsHistory self.old self.new }
         ensures ok { OnOk result ((ps : List Signature) → TellsChanges (option_copied name.entry) (unfolded ps self.old) out.old.items out.new.items) }

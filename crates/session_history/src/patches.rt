@@ -11,8 +11,8 @@ use crate::lines::CountedLines;
 use term_changes::{Next, Patch, Reader};
 use term_core::{NoMemory, Term};
 
-/// Adds a line for each place where a subterm differs from the one from before the patch, which has
-/// what was there. The subterm is at the path.
+/// Adds a line for each place where a subterm differs from the one before. The patch has what was
+/// there before. The subterm is at the path.
 pub(crate) fn add_patch(
     name: &[u8],
     path: &mut Vec<usize>,
@@ -30,7 +30,7 @@ pub(crate) fn add_patch(
     add_next(name, path, next, &mut reader, tree, lines)
 }
 
-// Adds the lines of what was read, with what is read for it.
+// Adds the lines of what was read, and of the items that belong to it.
 #[cycle(patches)]
 fn add_next(
     name: &[u8],
@@ -52,7 +52,7 @@ fn add_next(
     }
 }
 
-// Adds the lines of the next places, so many of them, which are below these children.
+// Adds the lines of the next `kids` items, which are below these children.
 #[cycle(patches)]
 fn add_kids(
     name: &[u8],
@@ -87,7 +87,7 @@ fn add_kids(
     Ok(())
 }
 
-// Passes over what was read, with what is read for it: its place isn't there.
+// Passes over what was read, and over the items that belong to it: its place isn't there.
 fn pass(next: Next<'_>, reader: &mut Reader<'_>)
     requires { kids_of next ≤ length reader.old }
     ensures { reader.new ≡ drop (kids_of next.entry) reader.old }

@@ -167,9 +167,9 @@ impl Timeline {
         }
     }
 
-    /// Leaves changes at disjoint places in the open group, which lead back to the same contents. It
-    /// takes no memory.
-    pub fn compact_group(&mut self)
+    /// Compacts the changes of the open group to disjoint places. They lead back to the same
+    /// contents. It takes no memory.
+    pub(crate) fn compact_group(&mut self)
         ensures same { KeepsHistory self.old self.new }
         ensures store { self.new.store ≡ self.old.store }
         ensures group { self.new.group ≡ self.old.group }

@@ -18,8 +18,7 @@ const MAYBE_CUT: &[u8] =
 pub struct Prompting<'a, I, W> {
     lines: I,
     screen: W,
-    // Whether a group is open. The run of the script has the session, so an observer of that sets
-    // it.
+    // Whether a group is open; the observer of the run sets it.
     in_group: &'a Cell<bool>,
     starts: bool,
     // How many bytes of the line were read.
