@@ -13,7 +13,8 @@ use std::io::Write;
 use term_core::Term;
 
 /// Explains each refused command on this screen, says there what an accepted module may not be
-/// meant to say, and where the steps of strategies went. What can't be written is left out.
+/// meant to say, and where the steps of strategies went. What can't be written is left out. With
+/// prompts it also notes after each command whether the session has a group open.
 #[derive(Drop)]
 pub struct Explaining<'a, W> {
     alloc: Global,
@@ -22,8 +23,8 @@ pub struct Explaining<'a, W> {
     wanted: Wanted,
     // The library's text, if it wasn't loaded.
     library: Option<&'a [u8]>,
-    // Whether a group is open, for the prompt.
-    in_group: &'a Cell<bool>,
+    // Where that is noted, if there are prompts.
+    in_group: Option<&'a Cell<bool>>,
     numbered: Numbered,
     past: Past,
     // The tree that the next command applies a strategy to, if its steps are wanted.
@@ -47,7 +48,7 @@ impl<'a, W: Write> Explaining<'a, W> {
         settings: Settings,
         wanted: Wanted,
         library: Option<&'a [u8]>,
-        in_group: &'a Cell<bool>,
+        in_group: Option<&'a Cell<bool>>,
     ) -> Explaining<'a, W> {
         Explaining {
             alloc,
@@ -106,10 +107,12 @@ impl<'a, W: Write> Explaining<'a, W> {
         }
     }
 
-    fn keep(&mut self, command: Piece<'_>, accepted: bool) {
+    fn keep<M: Meaning>(&mut self, session: &Session<M>, command: Piece<'_>, accepted: bool) {
         let line = self.numbered.line();
         self.past = self.past.after(line, text_of(command), accepted);
-        self.in_group.set(self.past.open);
+        if let Some(in_group) = self.in_group {
+            in_group.set(session.timeline().in_group());
+        }
     }
 }
 
@@ -152,14 +155,14 @@ impl<M: Meaning, W: Write> Watch<M> for Explaining<'_, W> {
         {
             show(&mut self.screen, &text);
         }
-        self.keep(command, true);
+        self.keep(session, command, true);
     }
 
     fn refused(&mut self, session: &Session<M>, command: Piece<'_>, refusal: &Refusal) {
         if self.wanted.explanations {
             self.explain(session, command, refusal);
         }
-        self.keep(command, false);
+        self.keep(session, command, false);
     }
 }
 

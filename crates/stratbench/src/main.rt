@@ -403,7 +403,7 @@ fn run_session<M: Meaning>(
         Some(path) => match File::open(rt, path) {
             Ok(file) => {
                 let (source, sink) = (Counted::new(file), Counted::new(writer));
-                run_between(rt, session, line, source, sink, &Cell::new(false))
+                run_between(rt, session, line, source, sink, None)
             }
             Err(error) => {
                 *reason = Some(error);
@@ -422,30 +422,30 @@ fn run_input<M: Meaning, W: Write + Drop>(
 ) -> Result<Summary, RunFault> {
     let source = Counted::new(rt.stdin());
     let sink = Counted::new(writer);
-    let in_group = Cell::new(false);
     let at_terminal = rt.stdin().is_terminal() && rt.stderr().is_terminal();
     if at_terminal && line.interactive {
+        let in_group = Cell::new(false);
         let source = Prompting::new(source, rt.stderr(), &in_group);
-        return run_between(rt, session, line, source, sink, &in_group);
+        return run_between(rt, session, line, source, sink, Some(&in_group));
     }
     if at_terminal && line.framing() == Framing::Continued {
         let _ = eprintln!(rt; "stratbench: {LATE}");
     }
-    run_between(rt, session, line, source, sink, &in_group)
+    run_between(rt, session, line, source, sink, None)
 }
 
 // What is said at a terminal where lines may go on.
 const LATE: &str = "an answer comes with the next command; with -i each line is answered at once";
 
-// Runs the session from the source to the sink. If commands are explained, as they are with
-// prompts, the cell then says whether a group is open.
+// Runs the session from the source to the sink. With prompts, commands are explained, and whether a
+// group is open is noted in the cell after each of them.
 fn run_between<M: Meaning, I: Source + Drop, O: Sink + Drop>(
     rt: &HostRuntime,
     session: &mut Session<M>,
     line: &CommandLine<'_>,
     mut source: I,
     mut sink: O,
-    in_group: &Cell<bool>,
+    in_group: Option<&Cell<bool>>,
 ) -> Result<Summary, RunFault>
     requires source { I.failed source + 1 < 2 ^ 64 }
     requires sink { O.failed sink + 1 < 2 ^ 64 }
