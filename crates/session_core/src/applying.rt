@@ -10,7 +10,7 @@ ghost use Rattle.session_modules.specs.Kept.{IsKept};
 ghost use Rattle.session_history.specs.Acts.{apply};
 ghost use Rattle.session_history.specs.Moving.{KeepsHistory, Changes, PerformsBy};
 
-use crate::planning::plan_at;
+use crate::planning::{PlannedAt, plan_at};
 use prim_core::{Meaning, Primitives};
 use session_history::{ModuleCache, Refusal, Timeline};
 use term_changes::Patch;
@@ -34,7 +34,9 @@ pub(crate) fn apply_strategy<M: Meaning>(
         timeline.old timeline.new result }
     ensures kept { IsKept primitives.now (contents timeline.new.store).modules cache.new }
 {
-    let (slot, planned) = match plan_at(timeline, primitives, cache, name, path, budget, text) {
+    let PlannedAt { slot, planned } = match plan_at(
+        timeline, primitives, cache, name, path, budget, text,
+    ) {
         Ok(found) => found,
         Err(refusal) => return Err(refusal),
     };

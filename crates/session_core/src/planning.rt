@@ -9,12 +9,19 @@ ghost use Rattle.session_history.specs.Unfolded.{unfolded};
 ghost use Rattle.session_core.specs.inside.Foreseen.{PlansTo, PlansNothing};
 ghost use Rattle.session_core.specs.inside.Resolved.{replaced_of, IsUnresolved};
 
-use crate::resolving::resolve_at;
+use crate::resolving::{ResolvedAt, resolve_at};
 use prim_core::{Meaning, Primitives};
 use session_history::{ModuleCache, Refusal, Timeline};
 use strategy_run::{Ended, Host, Planned, plan_patch};
 use term_core::{Label, NoMemory};
 use term_paths::Path;
+
+/// What a strategy would replace in the tree of a slot.
+#[derive(Drop)]
+pub(crate) struct PlannedAt {
+    pub(crate) slot: usize,
+    pub(crate) planned: Planned,
+}
 
 /// The slot of the name's tree, and what the strategy given as text replaces in the subterm at the
 /// path, within this budget. The modules are checked unless they are kept, and are kept then.
@@ -26,17 +33,19 @@ pub(crate) fn plan_at<M: Meaning>(
     path: &Path,
     budget: u32,
     text: &[u8],
-) -> Result<(usize, Planned), Refusal>
+) -> Result<PlannedAt, Refusal>
     requires formed { AreFormed (contents timeline.now.store) }
     requires kept { IsKept primitives.now (contents timeline.now.store).modules cache.old }
     ensures ok { IfOk result (λ found. PlansTo M.meaning primitives.now timeline.now name.now path.now text.now budget
-        found.0 (patch_entries found.0 path.now found.1.patch) found.1.taken) }
+        found.slot (patch_entries found.slot path.now found.planned.patch) found.planned.taken) }
     ensures refused { IfErr result (λ refusal. (refusal ≡ Refusal.Memory)
         ⊎ (IsUnresolved name.now path.now text.now (unfolded primitives.now timeline.now) refusal
         ⊎ PlansNothing M.meaning primitives.now timeline.now name.now path.now text.now budget refusal)) }
     ensures kept { IsKept primitives.now (contents timeline.now.store).modules cache.new }
 {
-    let ((slot, part), whole) = match resolve_at(timeline, primitives, cache, name, path, text) {
+    let ResolvedAt { place, strategy } = match resolve_at(
+        timeline, primitives, cache, name, path, text,
+    ) {
         Ok(found) => found,
         Err(refusal) => return Err(refusal),
     };
@@ -46,10 +55,13 @@ pub(crate) fn plan_at<M: Meaning>(
         room: timeline.limits().max_terms,
     };
     let (alloc, level) = (timeline.allocator(), path.len() as u64);
-    let ended = plan_patch(alloc, &host, part, level, &whole, budget as u64);
-    drop(whole);
+    let ended = plan_patch(alloc, &host, place.part, level, &strategy, budget as u64);
+    drop(strategy);
     match replaced(ended) {
-        Ok(planned) => Ok((slot, planned)),
+        Ok(planned) => Ok(PlannedAt {
+            slot: place.slot,
+            planned,
+        }),
         Err(refusal) => Err(refusal),
     }
 }

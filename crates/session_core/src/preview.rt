@@ -7,7 +7,7 @@ ghost use Rattle.session_modules.specs.Kept.{IsKept};
 ghost use Rattle.session_history.specs.Unfolded.{unfolded};
 ghost use Rattle.session_core.specs.Previewing.{AnswersPreview, IsNext};
 
-use crate::planning::plan_at;
+use crate::planning::{PlannedAt, plan_at};
 use change_log::Plan;
 use prim_core::{Meaning, Primitives};
 use session_history::{ModuleCache, Refusal, Timeline};
@@ -102,7 +102,9 @@ pub(crate) fn preview_strategy<M: Meaning>(
     ensures answers { AnswersPreview M.meaning name.now path.now budget text.now (unfolded primitives.now timeline.now) result }
     ensures kept { IsKept primitives.now (contents timeline.now.store).modules cache.new }
 {
-    let (slot, planned) = match plan_at(timeline, primitives, cache, name, path, budget, text) {
+    let PlannedAt { slot, planned } = match plan_at(
+        timeline, primitives, cache, name, path, budget, text,
+    ) {
         Ok(found) => found,
         Err(refusal) => return Err(refusal),
     };

@@ -10,16 +10,23 @@ ghost use Rattle.session_history.specs.Unfolded.{unfolded};
 ghost use Rattle.session_core.specs.inside.Resolved.{ResolvesTo, IsUnresolved};
 
 use prim_core::{Meaning, Primitives};
-use session_history::{ModuleCache, Refusal, Timeline};
+use session_history::{Found, ModuleCache, Refusal, Timeline};
 use std::alloc::Global;
 use strategy_check::{Program, resolve};
 use strategy_parse::parse_strategy;
 use strategy_syntax::{Resolved, Strategy};
-use term_core::{Label, Term};
+use term_core::Label;
 use term_paths::Path;
 
-/// The slot of the name's tree, its subterm at the path, and the strategy that the text is resolved
-/// to. The modules are checked unless they are kept, and are kept then.
+/// A strategy, resolved for a place in a tree.
+#[derive(Drop)]
+pub(crate) struct ResolvedAt<'a> {
+    pub(crate) place: Found<'a>,
+    pub(crate) strategy: Resolved,
+}
+
+/// The place at the path in the name's tree, and the strategy that the text is resolved to. The
+/// modules are checked unless they are kept, and are kept then.
 // What was read is passed to `drop` instead of being left to the ends of scopes: there its drop
 // would be proved anew on each way out.
 pub(crate) fn resolve_at<'a, M: Meaning>(
@@ -29,12 +36,12 @@ pub(crate) fn resolve_at<'a, M: Meaning>(
     name: &Label,
     path: &Path,
     text: &[u8],
-) -> Result<((usize, &'a Term), Resolved), Refusal>
+) -> Result<ResolvedAt<'a>, Refusal>
     requires formed { AreFormed (contents timeline.now.store) }
     requires kept { IsKept primitives.now (contents timeline.now.store).modules cache.old }
     ensures ok { IfOk result (λ found. ResolvesTo primitives.now timeline.now name.now path.now text.now
-        (program_in cache.new) found.0.0 found.1) }
-    ensures part { IfOk result (λ found. subterm_in timeline.now.store.trees found.0.0 path.now ≡ Some found.0.1.now) }
+        (program_in cache.new) found.place.slot found.strategy) }
+    ensures part { IfOk result (λ found. subterm_in timeline.now.store.trees found.place.slot path.now ≡ Some found.place.part.now) }
     ensures refused { IfErr result (λ refusal. (refusal ≡ Refusal.Memory)
         ⊎ IsUnresolved name.now path.now text.now (unfolded primitives.now timeline.now) refusal) }
     ensures kept { IsKept primitives.now (contents timeline.now.store).modules cache.new }
@@ -55,7 +62,10 @@ pub(crate) fn resolve_at<'a, M: Meaning>(
     let resolved = resolve_strategy(alloc, cache.program(), primitives, &strategy);
     drop(strategy);
     match resolved {
-        Ok(whole) => Ok((place, whole)),
+        Ok(whole) => Ok(ResolvedAt {
+            place,
+            strategy: whole,
+        }),
         Err(refusal) => Err(refusal),
     }
 }

@@ -18,6 +18,15 @@ use change_log::Entry;
 use term_core::{Label, Term};
 use term_paths::{Path, at};
 
+/// A subterm of the tree of a name.
+#[derive(Clone, Copy)]
+pub struct Found<'a> {
+    /// The slot of the tree.
+    pub slot: usize,
+    /// The subterm at the path.
+    pub part: &'a Term,
+}
+
 impl Timeline {
     /// Sets the tree of this name.
     #[inline(always)]
@@ -60,7 +69,7 @@ impl Timeline {
     pub fn put(&mut self, name: &Label, path: &Path, part: Term) -> Result<(), Refusal>
         ensures { PerformsOn (put name.now path.now part) self.old self.new result }
     {
-        let (slot, _) = self.place(name, path)?;
+        let Found { slot, .. } = self.place(name, path)?;
         if !part.fits(path.len() as u64, self.limits().max_terms) {
             return Err(Refusal::Big);
         }
@@ -77,7 +86,7 @@ impl Timeline {
     ) -> Result<(), Refusal>
         ensures { PerformsOn (annotate name.now path.now annotations.items) self.old self.new result }
     {
-        let (slot, _) = self.place(name, path)?;
+        let Found { slot, .. } = self.place(name, path)?;
         let level = path.parts().len() as u64 + 1;
         if !all_fit(&annotations, level, self.limits().max_terms) {
             return Err(Refusal::Big);
@@ -87,9 +96,9 @@ impl Timeline {
     }
 
     /// The slot of the name's tree, and its subterm at the path, if there is one.
-    pub fn place(&self, name: &Label, path: &Path) -> Result<(usize, &Term), Refusal>
-        ensures there { IfOk result (λ found. IsPlaceOf self.now.store name.now path.now found.0) }
-        ensures part { IfOk result (λ found. subterm_in self.now.store.trees found.0 path.now ≡ Some found.1.now) }
+    pub fn place(&self, name: &Label, path: &Path) -> Result<Found<'_>, Refusal>
+        ensures there { IfOk result (λ found. IsPlaceOf self.now.store name.now path.now found.slot) }
+        ensures part { IfOk result (λ found. subterm_in self.now.store.trees found.slot path.now ≡ Some found.part.now) }
         ensures refused { IfErr result (λ refusal. place_of (contents self.now.store) name.now path.now
             ≡ Err refusal) }
     {
@@ -99,7 +108,7 @@ impl Timeline {
         let Some(part) = at(tree, path) else {
             return Err(Refusal::Path);
         };
-        Ok((slot, part))
+        Ok(Found { slot, part })
     }
 
     /// Goes `n` steps back. Returns whether module texts may have changed.

@@ -14,6 +14,7 @@ mod modules;
 mod patches;
 mod timeline;
 
+pub use acts::Found;
 pub use limits::Limits;
 pub use session_modules::{ModuleCache, Refusal};
 pub use timeline::{OpenGroup, Timeline};

@@ -12,8 +12,8 @@ exchange-requires g c =
     let p = c.in-Ok.ensures.ok in
     record {
       places =
-          foreseen_fits (world_in g.M.Meaning.meaning p.program c.args.primitives.now c.args.timeline.now.limits.max_terms) c.args.timeline.now.store c.in-Ok.found.0 c.args.path.now p.whole c.args.budget
-          (patch_entries c.in-Ok.found.0 c.args.path.now c.in-Ok.found.1.patch) c.in-Ok.found.1.taken p.foresees;
+          foreseen_fits (world_in g.M.Meaning.meaning p.program c.args.primitives.now c.args.timeline.now.limits.max_terms) c.args.timeline.now.store c.in-Ok.found.slot c.args.path.now p.whole c.args.budget
+          (patch_entries c.in-Ok.found.slot c.args.path.now c.in-Ok.found.planned.patch) c.in-Ok.found.planned.taken p.foresees;
     }
 
 pub returns-in-Err-clause-performs : goal.returns-in-Err-clause-performs
@@ -25,8 +25,8 @@ returns-in-Err-clause-performs g c = record {
 pub returns-clause-performs : goal.returns-clause-performs
 returns-clause-performs g c = record {
   is =
-      apply_performs g.M.Meaning.meaning c.args.primitives.now c.args.timeline.now c.args.name.now c.args.path.now c.args.text.now c.args.budget c.in-Ok.found.0
-      (patch_entries c.in-Ok.found.0 c.args.path.now c.in-Ok.found.1.patch) c.in-Ok.found.1.taken c.in-Ok.ensures.ok
+      apply_performs g.M.Meaning.meaning c.args.primitives.now c.args.timeline.now c.args.name.now c.args.path.now c.args.text.now c.args.budget c.in-Ok.found.slot
+      (patch_entries c.in-Ok.found.slot c.args.path.now c.in-Ok.found.planned.patch) c.in-Ok.found.planned.taken c.in-Ok.ensures.ok
       c.exchange.result c.exchange.new.timeline c.exchange.ensures.made c.exchange.ensures.ok c.exchange.ensures.refused c.exchange.ensures.err;
 }
 

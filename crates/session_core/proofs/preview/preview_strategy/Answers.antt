@@ -9,6 +9,6 @@ returns-in-Err-clause-answers g c =
 
 pub returns-clause-answers : goal.returns-clause-answers
 returns-clause-answers g c =
-    preview_shows g.M.Meaning.meaning c.args.primitives.now c.args.timeline.now c.args.name.now c.args.path.now c.args.text.now c.args.budget c.in-Ok.found.0
-    (patch_entries c.in-Ok.found.0 c.args.path.now c.in-Ok.found.1.patch) c.in-Ok.found.1.taken c.in-Ok.ensures.ok _
-    (c.in_ok-into_plan.ensures ∙ ap (λ p. patch_entries c.in-Ok.found.0 p c.in-Ok.found.1.patch) c.parts.ensures) refl
+    preview_shows g.M.Meaning.meaning c.args.primitives.now c.args.timeline.now c.args.name.now c.args.path.now c.args.text.now c.args.budget c.in-Ok.found.slot
+    (patch_entries c.in-Ok.found.slot c.args.path.now c.in-Ok.found.planned.patch) c.in-Ok.found.planned.taken c.in-Ok.ensures.ok _
+    (c.in_ok-into_plan.ensures ∙ ap (λ p. patch_entries c.in-Ok.found.slot p c.in-Ok.found.planned.patch) c.parts.ensures) refl
