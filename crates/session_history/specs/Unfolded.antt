@@ -1,5 +1,5 @@
 -- What the logs of a session represent: the whole contents before and after each step.
-use Rattle.std.specs.Prelude.{◌≡◌, ◌≤◌, ℕ, ◌-◌, ◌==◌, List, [], ◌∷◌, ◌++◌, length, take, drop, true, Some, None, slice_get, option_map, if◌then◌else◌}
+use Rattle.std.specs.Prelude.{◌≡◌, ◌≤◌, ℕ, List, [], ◌∷◌, ◌++◌, length, take, drop, true, Some, None, option_map}
 use Rattle.std.specs.declared.option.Option.{Option}
 use Rattle.std.specs.Bool.{OnFalse}
 use Rattle.std.specs.List.{AllByRecursion}
@@ -39,10 +39,6 @@ past_of (log ∷ logs) s = past_of logs s ++ contents (before log (rewound logs 
 abbrev pub later_of : List (List Entry) → Store → List Contents
 later_of [] s = []
 later_of (log ∷ logs) s = contents (after log s) ∷ later_of logs (after log s)
-
--- the log of the last step to undo
-abbrev pub last_step : Logged → Option (List Entry)
-last_step t = if t.position == 0 then None else slice_get t.logs (t.position - 1)
 
 -- each log fits where undo reaches it
 abbrev pub FitBack : List (List Entry) → Store → Type 0

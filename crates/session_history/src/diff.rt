@@ -152,10 +152,10 @@ fn add_whole(
         path: &[],
         kept: &whole.kept,
     };
-    match name_of(store, held) {
-        Some(label) => add_named(store, &[NamedEntry { name: label, held }], name, lines),
-        None => Ok(()),
-    }
+    let Some(label) = name_of(store, held) else {
+        unreachable!()
+    };
+    add_named(store, &[NamedEntry { name: label, held }], name, lines)
 }
 
 fn add_parts(

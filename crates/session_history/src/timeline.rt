@@ -15,7 +15,7 @@ ghost use Rattle.session_history.specs.History.{empty_within, step_back, step_fo
 ghost use Rattle.session_history.specs.Acts.{begin, abandon};
 ghost use Rattle.session_modules.specs.Modules.{Checks, changed_text};
 ghost use Rattle.session_modules.specs.Kept.{IsCurrent, IsKept};
-ghost use Rattle.session_history.specs.Unfolded.{unfolded, past_contents, later_contents, last_step, AllCompact};
+ghost use Rattle.session_history.specs.Unfolded.{unfolded, past_contents, later_contents, AllCompact};
 ghost use Rattle.session_history.specs.Differences.{base_of};
 ghost use Rattle.session_history.specs.inside.Adding.{AddsStep};
 ghost use Rattle.session_history.specs.inside.Told.{LeadsToBase};
@@ -144,7 +144,6 @@ impl Timeline {
 
     // The last of the steps to undo. Outside a group it leads back to what `diff` begins with.
     pub(crate) fn newest(&self) -> Option<&Step>
-        ensures is { option_copied result ≡ last_step self.now }
         ensures base { self.now.group ≡ None → IfSome result (λ step. LeadsToBase step.now self.now) }
         ensures compact { IfSome result (λ step. IsCompact step.now) }
         ensures none { self.now.group ≡ None → IfNone result ((ps : List Signature)

@@ -6,14 +6,14 @@ use Rattle.session_history.proofs.EntryTold.{one_told}
 use Rattle.session_history.proofs.SlotTold.{fitting_slots}
 use Rattle.session_history.proofs.diff.add_whole.Goals as goal
 
-pub returns-in-Some-clause-ok : goal.returns-in-Some-clause-ok
-returns-in-Some-clause-ok c =
+pub returns-clause-ok : goal.returns-clause-ok
+returns-clause-ok c =
     on_ok_weaker c.add_named.result
     (subst (λ l. AddsLines l c.args.lines.now c.add_named.new.lines)
     (sym (one_told (option_copied c.args.name) c.args.store.now c.names_are_distinct.ensures.trees c.names_are_distinct.ensures.modules c.in-Some.label.now (whole_entry c.args.whole.now) c.in-Some.ensures.named c.requires))) c.add_named.ensures.ok
 
-pub returns-in-None-clause-ok : goal.returns-in-None-clause-ok
-returns-in-None-clause-ok c =
+pub unreachable-requires : goal.unreachable-requires
+unreachable-requires c =
     let slots = fitting_slots (whole_entry c.args.whole.now ∷ []) c.args.store.now c.requires in
-    let never : false ≡ true = c.in-None.ensures.there slots.0 in
-    absurd (cc)
+    let never : false ≡ true = c.in_default.ensures.there slots.0 in
+    cc
