@@ -2,7 +2,6 @@
 
 ghost use Rattle.std.specs.Prelude.{◌≡◌, IfErr, OnOk, OnErr};
 ghost use Rattle.term_changes.specs.Slots.{contents};
-ghost use Rattle.term_changes.specs.Change.{Change};
 ghost use Rattle.term_changes.specs.Entries.{after, FitsForward};
 ghost use Rattle.term_changes.specs.PatchLaws.{patch_entries};
 ghost use Rattle.session_history.specs.History.{AreFormed};

@@ -1,6 +1,6 @@
 //! Strategies given as text, for a place in a tree of a session.
 
-ghost use Rattle.std.specs.Prelude.{◌≡◌, ◌<◌, ◌≤◌, ◌⊎◌, Some, Ok, Err, IfOk, IfErr};
+ghost use Rattle.std.specs.Prelude.{◌≡◌, ◌<◌, ◌⊎◌, Some, Ok, Err, IfOk, IfErr};
 ghost use Rattle.term_changes.specs.Slots.{contents};
 ghost use Rattle.term_changes.specs.Entries.{subterm_in};
 ghost use Rattle.session_history.specs.Applying.{ReadsAsStrategy, resolved_in};

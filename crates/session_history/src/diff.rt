@@ -1,6 +1,6 @@
 //! What the last step changed.
 
-ghost use Rattle.std.specs.Prelude.{◌≡◌, ◌≤◌, ◌++◌, ◌∷◌, [], ◌⊎◌, ◌↔◌, IsTrue, List, Ok, Err, IfOk, IfErr, OnOk, None, IsSome, IfSome, option_copied, option_and_then, vec_capacity};
+ghost use Rattle.std.specs.Prelude.{◌≡◌, ◌≤◌, ◌∷◌, [], ◌⊎◌, ◌↔◌, IsTrue, List, Ok, Err, IfOk, IfErr, OnOk, None, IsSome, IfSome, option_copied, option_and_then, vec_capacity};
 ghost use Rattle.std.specs.List.{flat_map};
 ghost use Rattle.term_paths.specs.Paths.{at};
 ghost use Rattle.prim_core.specs.Signature.{Signature};

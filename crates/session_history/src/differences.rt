@@ -1,6 +1,6 @@
 //! How a tree differs from the one that was there before.
 
-ghost use Rattle.std.specs.Prelude.{◌≡◌, ◌≤◌, ◌↔◌, ◌∷◌, [], IsTrue, OnOk, map, length, option_copied, vec_capacity};
+ghost use Rattle.std.specs.Prelude.{◌≡◌, ◌≤◌, ◌↔◌, [], IsTrue, OnOk, map, length, option_copied, vec_capacity};
 ghost use Rattle.term_core.specs.Tree.{of_list};
 ghost use Rattle.session_history.specs.Differences.{differences as differences_of, differences_from, annotated, difference_line, tree_lines, text_lines};
 ghost use Rattle.session_history.specs.inside.Lined.{AddsLines, same_root, same_kind};

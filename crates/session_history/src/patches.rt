@@ -1,6 +1,6 @@
 //! What a patch changed in a tree.
 
-ghost use Rattle.std.specs.Prelude.{◌≡◌, ◌≤◌, ◌∷◌, OnOk, map, length, take, drop, vec_capacity};
+ghost use Rattle.std.specs.Prelude.{◌≡◌, ◌≤◌, OnOk, map, length, take, drop, vec_capacity};
 ghost use Rattle.term_changes.specs.Change.{changed};
 ghost use Rattle.session_history.specs.Differences.{differences, difference_line};
 ghost use Rattle.session_history.specs.inside.Lined.{AddsLines};
