@@ -315,12 +315,13 @@ impl<M: Meaning> Session<M> {
     ///
     /// For example, `changes 1` and `t/0 a => b` after `put t /0 b` over `f(a)`.
     ///
-    /// The refusal is `NoUndo` if no group is open and there is no step to undo. A refusal may
-    /// leave any bytes in `out`.
+    /// The refusal is `NoUndo` if no group is open and there is no step to undo. A refusal leaves
+    /// `out` as it was.
     pub fn diff(&mut self, name: Option<&Label>, out: &mut Vec<u8>) -> Result<(), Refusal>
         ensures same { self.new ≡ self.old }
         ensures ok { OnOk result (TellsChanges (option_copied name.entry) self.old out.old.items out.new.items) }
         ensures refused { IfErr result (λ refusal. (refusal ≡ Refusal.Memory) ⊎ (base_of self.old ≡ Err refusal)) }
+        ensures err { OnErr result (out.new.items ≡ out.old.items) }
         ensures room { vec_capacity out.old ≤ vec_capacity out.new }
     {
         self.timeline.diff(name, out)

@@ -5,7 +5,6 @@ use Rattle.std.specs.Bool.{OnFalse}
 use Rattle.std.specs.Option.{option_map_or}
 use Rattle.std.specs.List.{flat_map}
 use Rattle.term_changes.specs.Contents.{Contents}
-use Rattle.std.proofs.lemmas.List.{take_at, drop_at, length-append}
 use Rattle.prim_core.specs.Signature.{Signature}
 use Rattle.term_changes.specs.Slots.{Store, contents}
 use Rattle.term_changes.specs.Entries.{Entry, before, Fits}
@@ -103,35 +102,24 @@ module _ (name : Option (List ℕ)) (old mid : Logged) (keeps : KeepsHistory old
   pub same_refusal : (r : Refusal) → ((ps : List Signature) → base_of (unfolded ps mid) ≡ Err r) → (ps : List Signature) → base_of (unfolded ps old) ≡ Err r
   same_refusal r h ps = ap base_of (sym (keeps.same ps)) ∙ h ps
 
-  -- the number of the lines is put before them
-  pub told_changes : (a b : CountedLines) (out : List ℕ) → a.text.items ≡ out → a.count ≡ 0
+  -- the lines follow their number
+  pub told_changes : (a b : CountedLines) (out new : List ℕ) → a.text.items ≡ [] → a.count ≡ 0
       → ((ps : List Signature) → (base : Contents) × (base_of (unfolded ps mid) ≡ Ok base) × AddsLines (changes_of name base (contents mid.store)) a b)
-      → (start : ℕ) → start ≡ length out → (new : List ℕ)
-      → new ≡ take start b.text.items ++ (codes "changes " ++ decimal b.count ++ 10 ∷ drop start b.text.items)
+      → new ≡ out ++ (codes "changes " ++ decimal b.count ++ 10 ∷ b.text.items)
       → (ps : List Signature) → TellsChanges name (unfolded ps old) out new
-  told_changes a b out begun none adds start at new is ps =
+  told_changes a b out new begun none adds is ps =
       let x = adds ps in
       let lines = changes_of name x.0 (contents mid.store) in
-      let text : b.text.items ≡ out ++ flat_map (λ l. l) lines = x.2.text ∙ ap (λ l. l ++ flat_map (λ l. l) lines) begun in
-      let front : take start b.text.items ≡ out = ap (take start) text ∙ take_at out (flat_map (λ l. l) lines) start (sym at) in
-      let rest : drop start b.text.items ≡ flat_map (λ l. l) lines = ap (drop start) text ∙ drop_at out (flat_map (λ l. l) lines) start (sym at) in
+      let text : b.text.items ≡ flat_map (λ l. l) lines = x.2.text ∙ ap (λ l. l ++ flat_map (λ l. l) lines) begun in
       let count : b.count ≡ length lines = omega (arith, x.2.count, none) in
       let same : contents mid.store ≡ contents old.store = ap (λ (h : History). h.now) (keeps.same ps) in
       record {
         base = x.0;
         is = ap base_of (sym (keeps.same ps)) ∙ x.1;
         text =
-            is ∙ (λ k. front k ++ (codes "changes " ++ decimal (count k) ++ 10 ∷ rest k))
+            is ∙ (λ k. out ++ (codes "changes " ++ decimal (count k) ++ 10 ∷ text k))
             ∙ ap (λ c. out ++ diff_text (changes_of name x.0 c)) same;
       }
-
-  -- nothing before them is lost
-  pub begun_within : (a b : CountedLines) (out : List ℕ) → a.text.items ≡ out
-      → ((ps : List Signature) → (base : Contents) × (base_of (unfolded ps mid) ≡ Ok base) × AddsLines (changes_of name base (contents mid.store)) a b)
-      → length out ≤ length b.text.items
-  begun_within a b out begun adds =
-      let x = adds [] in
-      omega (arith, ap length x.2.text, length-append a.text.items (flat_map (λ l. l) (changes_of name x.0 (contents mid.store))), ap length begun)
 
 -- ---- what an open group and the last step give
 

@@ -1,6 +1,6 @@
 //! What the last step changed.
 
-ghost use Rattle.std.specs.Prelude.{◌≡◌, ◌≤◌, ◌∷◌, [], ◌⊎◌, ◌↔◌, IsTrue, List, Ok, Err, IfOk, IfErr, OnOk, None, IsSome, IfSome, option_copied, option_and_then, vec_capacity};
+ghost use Rattle.std.specs.Prelude.{◌≡◌, ◌≤◌, ◌∷◌, [], ◌⊎◌, ◌↔◌, IsTrue, List, Ok, Err, IfOk, IfErr, OnOk, OnErr, None, IsSome, IfSome, option_copied, option_and_then, vec_capacity};
 ghost use Rattle.std.specs.List.{flat_map};
 ghost use Rattle.term_paths.specs.Paths.{at};
 ghost use Rattle.prim_core.specs.Signature.{Signature};
@@ -17,12 +17,11 @@ ghost use Rattle.session_history.specs.inside.NamedPairs.{pairs_of};
 ghost use Rattle.session_history.specs.inside.Told.{entry_lines, log_lines, asked_lines, is_of_text, those, AllAs, HasSlot, IsNamed, IsAsked};
 
 use crate::differences::{add_annotations, add_differences, add_text, add_tree};
-use crate::lines::{CountedLines, put_count};
+use crate::lines::{CountedLines, append_counted};
 use crate::patches::add_patch;
 use crate::{Refusal, Timeline};
 use change_log::{Changes, Held, Kept, Log, Parts, Store, Text, Whole};
 use std::alloc::Global;
-use std::mem;
 use term_core::{Label, NoMemory, Term};
 use term_paths::at_parts;
 
@@ -33,26 +32,25 @@ impl Timeline {
     /// annotations differ, and one for each module that changed. With a name these are only those
     /// of the name.
     ///
-    /// No term is copied. A step of several changes takes memory for a reference to each of them;
-    /// those of an open group are compacted first.
+    /// No term is copied. The lines take memory of their own before they are appended, and a step
+    /// of several changes some for a reference to each of them; those of an open group are compacted
+    /// first.
     ///
-    /// Errors: `NoUndo` if no group is open and there is no step to undo; want of memory.
+    /// Errors: `NoUndo` if no group is open and there is no step to undo; want of memory. Then `out`
+    /// is unchanged.
     pub fn diff(&mut self, name: Option<&Label>, out: &mut Vec<u8>) -> Result<(), Refusal>
         ensures same { KeepsHistory self.old self.new }
         ensures ok { OnOk result ((ps : List Signature) → TellsChanges (option_copied name.entry) (unfolded ps self.old) out.old.items out.new.items) }
         ensures refused { IfErr result (λ refusal. (refusal ≡ Refusal.Memory)
             ⊎ ((ps : List Signature) → base_of (unfolded ps self.old) ≡ Err refusal)) }
+        ensures err { OnErr result (out.new.items ≡ out.old.items) }
         ensures room { vec_capacity out.old ≤ vec_capacity out.new }
     {
         self.compact_group();
-        let start = out.len();
-        let text = mem::replace(out, Vec::new(self.allocator()));
+        let text = Vec::new(self.allocator());
         let mut lines = CountedLines { text, count: 0 };
-        let added = self.add_changes(name, &mut lines);
-        let CountedLines { text, count } = lines;
-        *out = text;
-        match added {
-            Ok(()) => Ok(put_count(start, count, out)?),
+        match self.add_changes(name, &mut lines) {
+            Ok(()) => Ok(append_counted(&lines, out)?),
             Err(refusal) => Err(refusal),
         }
     }
@@ -64,7 +62,6 @@ impl Timeline {
             × AddsLines (changes_of (option_copied name.entry) base (contents self.now.store)) lines.old lines.new) }
         ensures refused { IfErr result (λ refusal. (refusal ≡ Refusal.Memory)
             ⊎ ((ps : List Signature) → base_of (unfolded ps self.now) ≡ Err refusal)) }
-        ensures room { vec_capacity lines.old.text ≤ vec_capacity lines.new.text }
     {
         match self.group_log() {
             Some(log) => Ok(add_log(self.store(), log, name, lines)?),
@@ -78,7 +75,6 @@ impl Timeline {
             × AddsLines (changes_of (option_copied name.entry) base (contents self.now.store)) lines.old lines.new) }
         ensures refused { IfErr result (λ refusal. (refusal ≡ Refusal.Memory)
             ⊎ ((ps : List Signature) → base_of (unfolded ps self.now) ≡ Err refusal)) }
-        ensures room { vec_capacity lines.old.text ≤ vec_capacity lines.new.text }
     {
         let store = self.store();
         match self.newest() {
@@ -96,8 +92,7 @@ fn add_entries(
 ) -> Result<(), NoMemory>
     requires fits { Fits (entries_of changes.now) store.now }
     requires compact { IsCompact (entries_of changes.now) }
-    ensures ok { OnOk result (AddsLines (log_lines (option_copied name.entry) (entries_of changes.now) store.now) lines.old lines.new) }
-    ensures room { vec_capacity lines.old.text ≤ vec_capacity lines.new.text }
+    ensures { OnOk result (AddsLines (log_lines (option_copied name.entry) (entries_of changes.now) store.now) lines.old lines.new) }
 {
     match changes {
         Changes::One(whole) => add_whole(store, whole, name, lines),
@@ -143,8 +138,7 @@ fn add_whole(
     lines: &mut CountedLines,
 ) -> Result<(), NoMemory>
     requires { Fits (whole_entry whole.now ∷ []) store.now }
-    ensures ok { OnOk result (AddsLines (log_lines (option_copied name.entry) (whole_entry whole.now ∷ []) store.now) lines.old lines.new) }
-    ensures room { vec_capacity lines.old.text ≤ vec_capacity lines.new.text }
+    ensures { OnOk result (AddsLines (log_lines (option_copied name.entry) (whole_entry whole.now ∷ []) store.now) lines.old lines.new) }
 {
     names_are_distinct(store);
     let held = Held {
@@ -164,8 +158,7 @@ fn add_parts(
     name: Option<&Label>,
     lines: &mut CountedLines,
 ) -> Result<(), NoMemory>
-    ensures ok { OnOk result (AddsLines (log_lines (option_copied name.entry) (part_entries parts.now) store.now) lines.old lines.new) }
-    ensures room { vec_capacity lines.old.text ≤ vec_capacity lines.new.text }
+    ensures { OnOk result (AddsLines (log_lines (option_copied name.entry) (part_entries parts.now) store.now) lines.old lines.new) }
 {
     names_are_distinct(store);
     let Some(label) = store.tree_name(parts.slot) else {
@@ -194,8 +187,7 @@ fn add_log(
 ) -> Result<(), NoMemory>
     requires fits { Fits log.now store.now }
     requires compact { IsCompact log.now }
-    ensures ok { OnOk result (AddsLines (log_lines (option_copied name.entry) log.now store.now) lines.old lines.new) }
-    ensures room { vec_capacity lines.old.text ≤ vec_capacity lines.new.text }
+    ensures { OnOk result (AddsLines (log_lines (option_copied name.entry) log.now store.now) lines.old lines.new) }
 {
     names_are_distinct(store);
     let mut found = find_names(store, log, lines.allocator())?;
@@ -238,8 +230,7 @@ fn add_named(
     name: Option<&Label>,
     lines: &mut CountedLines,
 ) -> Result<(), NoMemory>
-    ensures ok { OnOk result (AddsLines (flat_map (asked_lines (option_copied name.entry) store.now) (pairs_of entries.now)) lines.old lines.new) }
-    ensures room { vec_capacity lines.old.text ≤ vec_capacity lines.new.text }
+    ensures { OnOk result (AddsLines (flat_map (asked_lines (option_copied name.entry) store.now) (pairs_of entries.now)) lines.old lines.new) }
 {
     let mut path = Vec::new(lines.allocator());
     for it in entries {
@@ -256,8 +247,7 @@ fn add_asked(
     path: &mut Vec<usize>,
     lines: &mut CountedLines,
 ) -> Result<(), NoMemory>
-    ensures ok { OnOk result (AddsLines (asked_lines (option_copied name.entry) store.now (it.entry.name.now, held_entry it.entry.held)) lines.old lines.new) }
-    ensures room { vec_capacity lines.old.text ≤ vec_capacity lines.new.text }
+    ensures { OnOk result (AddsLines (asked_lines (option_copied name.entry) store.now (it.entry.name.now, held_entry it.entry.held)) lines.old lines.new) }
 {
     if !is_asked(name, it.name) {
         return Ok(());
@@ -279,8 +269,7 @@ fn add_held(
     path: &mut Vec<usize>,
     lines: &mut CountedLines,
 ) -> Result<(), NoMemory>
-    ensures ok { OnOk result (AddsLines (entry_lines store.now name.now (held_entry held.entry)) lines.old lines.new) }
-    ensures room { vec_capacity lines.old.text ≤ vec_capacity lines.new.text }
+    ensures { OnOk result (AddsLines (entry_lines store.now name.now (held_entry held.entry)) lines.old lines.new) }
 {
     path.clear();
     let tree = store.tree(held.slot);

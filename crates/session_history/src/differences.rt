@@ -1,6 +1,6 @@
 //! How a tree differs from the one that was there before.
 
-ghost use Rattle.std.specs.Prelude.{◌≡◌, ◌≤◌, ◌↔◌, [], IsTrue, OnOk, map, length, option_copied, vec_capacity};
+ghost use Rattle.std.specs.Prelude.{◌≡◌, ◌↔◌, [], IsTrue, OnOk, map, length, option_copied};
 ghost use Rattle.term_core.specs.Tree.{of_list};
 ghost use Rattle.session_history.specs.Differences.{differences as differences_of, differences_from, annotated, difference_line, tree_lines, text_lines};
 ghost use Rattle.session_history.specs.inside.Lined.{AddsLines, same_root, same_kind};
@@ -19,7 +19,6 @@ pub(crate) fn add_tree(
     requires { path.old.items ≡ [] }
     ensures ok { OnOk result (AddsLines (tree_lines name.now (option_copied old.entry) (option_copied new.entry)) lines.old lines.new) }
     ensures path { OnOk result (path.new.items ≡ path.old.items) }
-    ensures room { vec_capacity lines.old.text ≤ vec_capacity lines.new.text }
 {
     match (old, new) {
         (Some(old), Some(new)) => add_differences(name, path, old, new, lines),
@@ -36,8 +35,7 @@ pub(crate) fn add_text(
     new: Option<&[u8]>,
     lines: &mut CountedLines,
 ) -> Result<(), NoMemory>
-    ensures ok { OnOk result (AddsLines (text_lines name.now (option_copied old.entry) (option_copied new.entry)) lines.old lines.new) }
-    ensures room { vec_capacity lines.old.text ≤ vec_capacity lines.new.text }
+    ensures { OnOk result (AddsLines (text_lines name.now (option_copied old.entry) (option_copied new.entry)) lines.old lines.new) }
 {
     match (old, new) {
         (Some(old), Some(new)) if old == new => Ok(()),
@@ -60,7 +58,6 @@ pub(crate) fn add_differences(
 ) -> Result<(), NoMemory>
     ensures ok { OnOk result (AddsLines (map (difference_line name.now) (differences_of path.old.items old.now new.now)) lines.old lines.new) }
     ensures path { OnOk result (path.new.items ≡ path.old.items) }
-    ensures room { vec_capacity lines.old.text ≤ vec_capacity lines.new.text }
 {
     if !same_root(old, new) {
         return lines.add_change(name, path, Side::Tree(old), Side::Tree(new));
@@ -80,7 +77,6 @@ fn add_children(
     requires { length old.now ≡ length new.now }
     ensures ok { OnOk result (AddsLines (map (difference_line name.now) (differences_from path.old.items 0 (of_list old.now) (of_list new.now))) lines.old lines.new) }
     ensures path { OnOk result (path.new.items ≡ path.old.items) }
-    ensures room { vec_capacity lines.old.text ≤ vec_capacity lines.new.text }
 {
     for i in 0..old.len() {
         path.push(i)?;
@@ -98,8 +94,7 @@ pub(crate) fn add_annotations(
     new: &[Term],
     lines: &mut CountedLines,
 ) -> Result<(), NoMemory>
-    ensures ok { OnOk result (AddsLines (map (difference_line name.now) (annotated path.now (of_list old.now) (of_list new.now))) lines.old lines.new) }
-    ensures room { vec_capacity lines.old.text ≤ vec_capacity lines.new.text }
+    ensures { OnOk result (AddsLines (map (difference_line name.now) (annotated path.now (of_list old.now) (of_list new.now))) lines.old lines.new) }
 {
     if are_equal(old, new) {
         return Ok(());

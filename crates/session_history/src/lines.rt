@@ -1,9 +1,10 @@
 //! Lines that say what changed.
 
-ghost use Rattle.std.specs.Prelude.{◌≡◌, ◌≤◌, ◌+◌, ◌++◌, ◌∷◌, [], OnOk, codes, decimal, length, vec_capacity, take, drop};
+ghost use Rattle.std.specs.Prelude.{◌≡◌, ◌≤◌, ◌+◌, ◌++◌, ◌∷◌, [], OnOk, OnErr, codes, decimal, length, vec_capacity};
 ghost use Rattle.std.specs.List.{flat_map};
 ghost use Rattle.term_core.specs.Tree.{of_list};
 ghost use Rattle.aterm_text.specs.Printed.{print_all};
+ghost use Rattle.aterm_text.specs.inside.Printing.{Extends};
 ghost use Rattle.session_history.specs.Differences.{change_line, in_braces, text_line};
 ghost use Rattle.session_history.specs.inside.Sides.{side_text};
 
@@ -47,7 +48,6 @@ impl CountedLines {
         ensures text { OnOk result (self.new.text.items
             ≡ self.old.text.items ++ change_line name.now path.now (side_text old.entry) (side_text new.entry)) }
         ensures count { OnOk result (self.new.count ≡ self.old.count + 1) }
-        ensures room { vec_capacity self.old.text ≤ vec_capacity self.new.text }
     {
         self.text.extend_from_slice(name)?;
         append_path(path, &mut self.text)?;
@@ -62,7 +62,6 @@ impl CountedLines {
     pub(crate) fn add_text_change(&mut self, name: &[u8], what: &[u8]) -> Result<(), NoMemory>
         ensures text { OnOk result (self.new.text.items ≡ self.old.text.items ++ text_line name.now what.now) }
         ensures count { OnOk result (self.new.count ≡ self.old.count + 1) }
-        ensures room { vec_capacity self.old.text ≤ vec_capacity self.new.text }
     {
         self.text.extend_from_slice(b"module ")?;
         self.text.extend_from_slice(name)?;
@@ -74,7 +73,6 @@ impl CountedLines {
     fn end_line(&mut self) -> Result<(), NoMemory>
         ensures text { OnOk result (self.new.text.items ≡ self.old.text.items ++ 10 ∷ []) }
         ensures count { OnOk result (self.new.count ≡ self.old.count + 1) }
-        ensures room { vec_capacity self.old.text ≤ vec_capacity self.new.text }
     {
         self.text.push(b'\n')?;
         self.count += 1;
@@ -85,7 +83,6 @@ impl CountedLines {
 fn append_path(path: &[usize], out: &mut Vec<u8>) -> Result<(), NoMemory>
     ensures ok { OnOk result (out.new.items ≡ out.old.items ++ flat_map (λ i. 47 ∷ decimal i) path.now) }
     ensures grows { length out.old.items ≤ length out.new.items }
-    ensures room { vec_capacity out.old ≤ vec_capacity out.new }
 {
     for part in path {
         out.push(b'/')?;
@@ -96,6 +93,7 @@ fn append_path(path: &[usize], out: &mut Vec<u8>) -> Result<(), NoMemory>
 
 fn append_number(number: u64, out: &mut Vec<u8>) -> Result<(), NoMemory>
     ensures ok { OnOk result (out.new.items ≡ out.old.items ++ decimal number) }
+    ensures err { Extends out.old.items out.new.items }
     ensures grows { length out.old.items ≤ length out.new.items }
     ensures room { vec_capacity out.old ≤ vec_capacity out.new }
 {
@@ -107,7 +105,6 @@ fn append_number(number: u64, out: &mut Vec<u8>) -> Result<(), NoMemory>
 fn append_side(side: Side<'_>, out: &mut Vec<u8>) -> Result<(), NoMemory>
     ensures ok { OnOk result (out.new.items ≡ out.old.items ++ side_text side.entry) }
     ensures grows { length out.old.items ≤ length out.new.items }
-    ensures room { vec_capacity out.old ≤ vec_capacity out.new }
 {
     match side {
         Side::Nothing => {
@@ -122,7 +119,6 @@ fn append_side(side: Side<'_>, out: &mut Vec<u8>) -> Result<(), NoMemory>
 fn append_annotations(terms: &[Term], out: &mut Vec<u8>) -> Result<(), NoMemory>
     ensures ok { OnOk result (out.new.items ≡ out.old.items ++ in_braces (of_list terms.now)) }
     ensures grows { length out.old.items ≤ length out.new.items }
-    ensures room { vec_capacity out.old ≤ vec_capacity out.new }
 {
     out.push(b'{')?;
     append_all(terms, out)?;
@@ -134,7 +130,6 @@ fn append_annotations(terms: &[Term], out: &mut Vec<u8>) -> Result<(), NoMemory>
 fn append_all(terms: &[Term], out: &mut Vec<u8>) -> Result<(), NoMemory>
     ensures ok { OnOk result (out.new.items ≡ out.old.items ++ print_all (of_list terms.now)) }
     ensures grows { length out.old.items ≤ length out.new.items }
-    ensures room { vec_capacity out.old ≤ vec_capacity out.new }
 {
     let Some((first, rest)) = terms.split_first() else {
         return Ok(());
@@ -147,17 +142,30 @@ fn append_all(terms: &[Term], out: &mut Vec<u8>) -> Result<(), NoMemory>
     Ok(())
 }
 
-/// Puts the number of lines in front of those that were added from `start` on.
-pub(crate) fn put_count(start: usize, count: u64, out: &mut Vec<u8>) -> Result<(), NoMemory>
-    requires { start ≤ length out.old.items }
-    ensures ok { OnOk result (out.new.items ≡ take start out.old.items
-        ++ (codes "changes " ++ decimal count ++ 10 ∷ drop start out.old.items)) }
+/// Appends the number of lines, and then the lines. If memory can't grow, `out` is unchanged.
+pub(crate) fn append_counted(lines: &CountedLines, out: &mut Vec<u8>) -> Result<(), NoMemory>
+    ensures ok { OnOk result (out.new.items ≡ out.old.items
+        ++ (codes "changes " ++ decimal lines.now.count ++ 10 ∷ lines.now.text.items)) }
+    ensures err { OnErr result (out.new.items ≡ out.old.items) }
     ensures room { vec_capacity out.old ≤ vec_capacity out.new }
 {
-    let end = out.len();
+    let length = out.len();
+    let appended = append_lines(lines, out);
+    if appended.is_err() {
+        out.truncate(length);
+    }
+    appended
+}
+
+fn append_lines(lines: &CountedLines, out: &mut Vec<u8>) -> Result<(), NoMemory>
+    ensures ok { OnOk result (out.new.items ≡ out.old.items
+        ++ (codes "changes " ++ decimal lines.now.count ++ 10 ∷ lines.now.text.items)) }
+    ensures err { Extends out.old.items out.new.items }
+    ensures room { vec_capacity out.old ≤ vec_capacity out.new }
+{
     out.extend_from_slice(b"changes ")?;
-    append_number(count, out)?;
+    append_number(lines.count, out)?;
     out.push(b'\n')?;
-    out[start..].rotate_left(end - start);
+    out.extend_from_slice(&lines.text)?;
     Ok(())
 }

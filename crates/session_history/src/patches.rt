@@ -1,6 +1,6 @@
 //! What a patch changed in a tree.
 
-ghost use Rattle.std.specs.Prelude.{◌≡◌, ◌≤◌, OnOk, map, length, take, drop, vec_capacity};
+ghost use Rattle.std.specs.Prelude.{◌≡◌, ◌≤◌, OnOk, map, length, take, drop};
 ghost use Rattle.term_changes.specs.Change.{changed};
 ghost use Rattle.session_history.specs.Differences.{differences, difference_line};
 ghost use Rattle.session_history.specs.inside.Lined.{AddsLines};
@@ -20,8 +20,7 @@ pub(crate) fn add_patch(
     tree: &Term,
     lines: &mut CountedLines,
 ) -> Result<(), NoMemory>
-    ensures ok { OnOk result (AddsLines (map (difference_line name.now) (differences path.old.items (changed patch.now tree.now) tree.now)) lines.old lines.new) }
-    ensures room { vec_capacity lines.old.text ≤ vec_capacity lines.new.text }
+    ensures { OnOk result (AddsLines (map (difference_line name.now) (differences path.old.items (changed patch.now tree.now) tree.now)) lines.old lines.new) }
 {
     let mut reader = patch.reader();
     let Some((_, next)) = reader.next() else {
@@ -44,7 +43,6 @@ fn add_next(
     ensures ok { OnOk result (AddsLines (map (difference_line name.now) (differences path.old.items (changed (change_of next.entry reader.old) tree.now) tree.now)) lines.old lines.new) }
     ensures reader { OnOk result (reader.new ≡ drop (kids_of next.entry) reader.old) }
     ensures path { OnOk result (path.new.items ≡ path.old.items) }
-    ensures room { vec_capacity lines.old.text ≤ vec_capacity lines.new.text }
 {
     match next {
         Next::Term(old) => add_differences(name, path, old, tree, lines),
@@ -66,7 +64,6 @@ fn add_kids(
     ensures ok { OnOk result (AddsLines (map (difference_line name.now) (differences_of path.old.items 0 (take kids reader.old) children.now)) lines.old lines.new) }
     ensures reader { OnOk result (reader.new ≡ drop kids reader.old) }
     ensures path { OnOk result (path.new.items ≡ path.old.items) }
-    ensures room { vec_capacity lines.old.text ≤ vec_capacity lines.new.text }
 {
     let mut at = 0;
     for _k in 0..kids {

@@ -6,16 +6,16 @@ use Rattle.session_history.specs.inside.Lined.{AddsLines}
 use Rattle.session_history.specs.inside.Told.{entry_lines}
 use Rattle.session_history.proofs.diff.add_held.Goals as goal
 
-pub returns-in-Tree-clause-ok : goal.returns-in-Tree-clause-ok
-returns-in-Tree-clause-ok c =
+pub returns-in-Tree : goal.returns-in-Tree
+returns-in-Tree c =
     let h = c.args.held in
     on_ok_weaker c.add_tree.result
     (subst (λ l. AddsLines l c.args.lines.now c.add_tree.new.lines)
     ((λ k. tree_lines c.args.name.now (c.as_ref.ensures.value k) (c.tree-tree.ensures k)) ∙ ap (λ kept. entry_lines c.args.store.now c.args.name.now (entry_of h.slot h.path.now kept)) (sym c.in-Tree.is))) c.add_tree.ensures.ok
 
-pub returns-in-Text-clause-ok : goal.returns-in-Text-clause-ok
-returns-in-Text-clause-ok c =
+pub returns-in-Text : goal.returns-in-Text
+returns-in-Text c =
     let h = c.args.held in
     on_ok_weaker c.add_text.result
     (subst (λ l. AddsLines l c.args.lines.now c.add_text.new.lines)
-    ((λ k. text_lines c.args.name.now (c.bytes_of.ensures k) (c.module.ensures k)) ∙ ap (λ kept. entry_lines c.args.store.now c.args.name.now (entry_of h.slot h.path.now kept)) (sym c.in-Text.is))) c.add_text.ensures.ok
+    ((λ k. text_lines c.args.name.now (c.bytes_of.ensures k) (c.module.ensures k)) ∙ ap (λ kept. entry_lines c.args.store.now c.args.name.now (entry_of h.slot h.path.now kept)) (sym c.in-Text.is))) c.add_text.ensures

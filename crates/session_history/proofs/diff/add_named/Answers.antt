@@ -4,14 +4,12 @@ use Rattle.session_history.proofs.NamedTold.{next_told, none_left}
 use Rattle.session_history.proofs.diff.add_named.Goals as goal
 
 pub loop-it-preserved : goal.loop-it-preserved
-loop-it-preserved c = record {
-  lines = λ m rest. c.loop-it.invariant.lines m
-      (adds_then _ _ _ c.loop-it.lines c.add_asked.new.lines m
-      (next_told (option_copied c.args.name) c.args.store.now c.args.entries.now c.loop-it.it-index c.it-item.result (omega arith) c.it-item.is) c.in_ok-add_asked.ensures.ok rest);
-  room = omega (arith, c.loop-it.invariant.room, c.in_ok-add_asked.ensures.room);
-}
+loop-it-preserved c = λ m rest.
+    c.loop-it.invariant m
+    (adds_then _ _ _ c.loop-it.lines c.add_asked.new.lines m
+    (next_told (option_copied c.args.name) c.args.store.now c.args.entries.now c.loop-it.it-index c.it-item.result (omega arith) c.it-item.is) c.in_ok-add_asked.ensures rest)
 
-pub returns-clause-ok : goal.returns-clause-ok
-returns-clause-ok c =
-    c.loop-it.invariant.lines c.loop-it.lines
+pub returns : goal.returns
+returns c =
+    c.loop-it.invariant c.loop-it.lines
     (adds_equal _ c.loop-it.lines (none_left (option_copied c.args.name) c.args.store.now c.args.entries.now c.loop-it.it-index (omega arith)))

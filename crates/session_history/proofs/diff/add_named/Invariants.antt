@@ -1,4 +1,4 @@
-use Rattle.std.proofs.Common.{◌≤◌, vec_capacity, drop, option_copied}
+use Rattle.std.proofs.Common.{drop, option_copied}
 use Rattle.std.specs.List.{flat_map}
 use Rattle.session_history.specs.inside.Lined.{AddsLines}
 use Rattle.session_history.specs.inside.NamedPairs.{pairs_of}
@@ -8,8 +8,6 @@ use Rattle.session_history.proofs.diff.add_named.Given as goal
 
 -- what was added, and then the lines of the other entries, comes to all lines
 abbrev pub invariant-loop-it : goal.invariant-loop-it
-invariant-loop-it l = record {
-  lines : (c : CountedLines) → AddsLines (flat_map (asked_lines (option_copied l.name) l.store) (pairs_of (drop l.it-index l.entries))) l.lines c
-      → AddsLines (flat_map (asked_lines (option_copied l.name) l.store) (pairs_of l.entries)) l.initial.lines c;
-  room : vec_capacity l.initial.lines.text ≤ vec_capacity l.lines.text;
-}
+invariant-loop-it l =
+    (c : CountedLines) → AddsLines (flat_map (asked_lines (option_copied l.name) l.store) (pairs_of (drop l.it-index l.entries))) l.lines c
+    → AddsLines (flat_map (asked_lines (option_copied l.name) l.store) (pairs_of l.entries)) l.initial.lines c

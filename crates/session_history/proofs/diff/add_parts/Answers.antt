@@ -9,15 +9,15 @@ use Rattle.session_history.proofs.EntryTold.{no_slot_told, no_tree_told, no_part
 use Rattle.session_history.proofs.NamedTold.{named_slot, not_mapped}
 use Rattle.session_history.proofs.diff.add_parts.Goals as goal
 
-pub returns-in_default-clause-ok : goal.returns-in_default-clause-ok
-returns-in_default-clause-ok c =
+pub returns-in_default : goal.returns-in_default
+returns-in_default c =
     let s = c.args.store.now in
     let p = c.args.parts.now in
     adds_equal _ c.args.lines.now
     (no_slot_told (option_copied c.args.name) s c.names_are_distinct.ensures.trees c.names_are_distinct.ensures.modules p.patch p.slot p.path.items (not_mapped _ _ c.in_default.ensures.label))
 
-pub returns-then-not-is_asked-clause-ok : goal.returns-then-not-is_asked-clause-ok
-returns-then-not-is_asked-clause-ok c =
+pub returns-then-not-is_asked : goal.returns-then-not-is_asked
+returns-then-not-is_asked c =
     let s = c.args.store.now in
     let p = c.args.parts.now in
     adds_equal _ c.args.lines.now
@@ -25,15 +25,15 @@ returns-then-not-is_asked-clause-ok c =
     (named_slot s.trees p.slot c.in-Some.label.now c.names_are_distinct.ensures.trees c.in-Some.ensures.label)
     (λ h. let never : false ≡ true = c.if-not-is_asked.ensures.1 h in cc))
 
-pub returns-in_default-tree-clause-ok : goal.returns-in_default-tree-clause-ok
-returns-in_default-tree-clause-ok c =
+pub returns-in_default-tree : goal.returns-in_default-tree
+returns-in_default-tree c =
     let s = c.args.store.now in
     let p = c.args.parts.now in
     adds_equal _ c.args.lines.now
     (no_tree_told (option_copied c.args.name) s c.names_are_distinct.ensures.trees c.names_are_distinct.ensures.modules p.patch p.slot p.path.items (sym c.in_default-tree.ensures))
 
-pub returns-in_default-at_parts-clause-ok : goal.returns-in_default-at_parts-clause-ok
-returns-in_default-at_parts-clause-ok c =
+pub returns-in_default-at_parts : goal.returns-in_default-at_parts
+returns-in_default-at_parts c =
     let s = c.args.store.now in
     let p = c.args.parts.now in
     let t = c.in-Some-tree.tree.now in
@@ -41,8 +41,8 @@ returns-in_default-at_parts-clause-ok c =
     (no_part_told (option_copied c.args.name) s c.names_are_distinct.ensures.trees c.names_are_distinct.ensures.modules p.patch p.slot p.path.items t (sym c.in-Some-tree.ensures)
     (ap (at t) (sym c.deref.ensures.value) ∙ sym c.in_default-at_parts.ensures))
 
-pub returns-clause-ok : goal.returns-clause-ok
-returns-clause-ok c =
+pub returns : goal.returns
+returns c =
     let s = c.args.store.now in
     let p = c.args.parts.now in
     let n = c.in-Some.label.now in
@@ -55,4 +55,4 @@ returns-clause-ok c =
     (ap (at t) (sym c.deref.ensures.value) ∙ sym c.in-Some-at_parts.ensures) (c.if-not-is_asked.ensures.0 refl) in
     on_ok_weaker c.add_patch.result
     (subst (λ l. AddsLines l c.args.lines.now c.add_patch.new.lines)
-    ((λ k. map (difference_line (c.bytes.ensures.value k)) (differences (here k) (changed p.patch w) w)) ∙ sym told)) c.add_patch.ensures.ok
+    ((λ k. map (difference_line (c.bytes.ensures.value k)) (differences (here k) (changed p.patch w) w)) ∙ sym told)) c.add_patch.ensures

@@ -6,11 +6,11 @@ use Rattle.session_history.proofs.EntryTold.{one_told}
 use Rattle.session_history.proofs.SlotTold.{fitting_slots}
 use Rattle.session_history.proofs.diff.add_whole.Goals as goal
 
-pub returns-clause-ok : goal.returns-clause-ok
-returns-clause-ok c =
+pub returns : goal.returns
+returns c =
     on_ok_weaker c.add_named.result
     (subst (λ l. AddsLines l c.args.lines.now c.add_named.new.lines)
-    (sym (one_told (option_copied c.args.name) c.args.store.now c.names_are_distinct.ensures.trees c.names_are_distinct.ensures.modules c.in-Some.label.now (whole_entry c.args.whole.now) c.in-Some.ensures.named c.requires))) c.add_named.ensures.ok
+    (sym (one_told (option_copied c.args.name) c.args.store.now c.names_are_distinct.ensures.trees c.names_are_distinct.ensures.modules c.in-Some.label.now (whole_entry c.args.whole.now) c.in-Some.ensures.named c.requires))) c.add_named.ensures
 
 pub unreachable-requires : goal.unreachable-requires
 unreachable-requires c =

@@ -51,7 +51,7 @@ pub add_differences-returns-clause-ok : goal.add_differences-returns-clause-ok
 add_differences-returns-clause-ok t c =
     below_lines c.add_children.result c.args.name.now c.args.path.now.items c.deref-2.result.now c.args.old.now c.args.new.now c.annotations.result.now c.annotations-2.result.now c.children.result.now c.children-2.result.now
     c.args.lines.now c.add_annotations.new.lines c.add_children.new.lines (sym c.same_root.ensures ∙ c.if-not-same_root.false) c.deref-2.ensures.value
-    c.annotations.ensures c.annotations-2.ensures c.children.ensures c.children-2.ensures c.in_ok-add_annotations.ensures.ok c.add_children.ensures.ok
+    c.annotations.ensures c.annotations-2.ensures c.children.ensures c.children-2.ensures c.in_ok-add_annotations.ensures c.add_children.ensures.ok
 
 pub add_children-add_differences-requires : goal.add_children-add_differences-requires
 add_children-add_differences-requires t c =
@@ -70,7 +70,6 @@ add_children-loop-i-preserved t c =
           c.loop-i.lines c.add_differences.new.lines after c.loop-i-test.true (omega (arith, c.loop-i-test.true, c.requires)) c.index-old-i.is c.index-new-i.is
           (subst (λ p. AddsLines (map (difference_line c.args.name.now) (differences p c.index-old-i.result c.index-new-i.result)) c.loop-i.lines c.add_differences.new.lines)
           (c.in_ok-push.ensures.items ∙ ap (λ p. p ++ i ∷ []) path) c.in_ok-add_differences.ensures.ok) h);
-      room = omega (arith, c.loop-i.invariant.room, c.in_ok-add_differences.ensures.room);
     }
 
 pub add_children-returns-clause-ok : goal.add_children-returns-clause-ok

@@ -1,4 +1,4 @@
-use Rattle.std.proofs.Common.{◌≡◌, ◌≤◌, ◌+◌, ◌*◌, vec_capacity, map, drop}
+use Rattle.std.proofs.Common.{◌≡◌, ◌≤◌, ◌+◌, ◌*◌, map, drop}
 use Rattle.term_core.specs.Tree.{of_list}
 use Rattle.term_core.specs.Size.{height, heights}
 use Rattle.session_history.specs.Differences.{differences_from, difference_line}
@@ -18,5 +18,4 @@ invariant-add_children-loop-i l = record {
   path : l.path.items ≡ l.initial.path.items;
   lines : (c : CountedLines) → AddsLines (map (difference_line l.name) (differences_from l.initial.path.items l.i (of_list (drop l.i l.old)) (of_list (drop l.i l.new)))) l.lines c
       → AddsLines (map (difference_line l.name) (differences_from l.initial.path.items 0 (of_list l.old) (of_list l.new))) l.initial.lines c;
-  room : vec_capacity l.initial.lines.text ≤ vec_capacity l.lines.text;
 }

@@ -6,12 +6,12 @@ use Rattle.session_history.proofs.DifferenceLemmas.{annotated_equal, annotated_a
 use Rattle.session_history.proofs.AddedLemmas.{line_added, adds_equal}
 use Rattle.session_history.proofs.differences.add_annotations.Goals as goal
 
-pub returns-then-are_equal-clause-ok : goal.returns-then-are_equal-clause-ok
-returns-then-are_equal-clause-ok c =
+pub returns-then-are_equal : goal.returns-then-are_equal
+returns-then-are_equal c =
     adds_equal _ _ (ap (map (difference_line c.args.name.now)) (annotated_equal c.args.path.now c.args.old.now c.args.new.now (c.if-are_equal.ensures.0 refl)))
 
-pub returns-clause-ok : goal.returns-clause-ok
-returns-clause-ok c =
+pub returns : goal.returns
+returns c =
     let line = difference_line c.args.name.now in
     let ns = c.args.old.now in
     let ms = c.args.new.now in

@@ -1,4 +1,4 @@
-use Rattle.std.proofs.Common.{◌≡◌, ◌≤◌, ◌++◌, vec_capacity, length, drop}
+use Rattle.std.proofs.Common.{◌≡◌, ◌≤◌, ◌++◌, length, drop}
 use Rattle.term_core.specs.Tree.{of_list}
 use Rattle.aterm_text.specs.Printed.{print_more}
 use Rattle.session_history.proofs.lines.append_all.Given as goal
@@ -8,5 +8,4 @@ abbrev pub invariant-loop-term : goal.invariant-loop-term
 invariant-loop-term l = record {
   text : l.initial.out.items ++ print_more (of_list l.rest) ≡ l.out.items ++ print_more (of_list (drop l.term-index l.rest));
   grows : length l.initial.out.items ≤ length l.out.items;
-  room : vec_capacity l.initial.out ≤ vec_capacity l.out;
 }

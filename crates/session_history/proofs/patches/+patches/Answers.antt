@@ -45,7 +45,6 @@ add_kids-loop-k-preserved-then-skipped-children t c =
       reader = c.pass.ensures ∙ sym left.1;
       lines = λ after h. c.loop-k.invariant.lines after (subst (λ ds. AddsLines (map line ds) c.loop-k.lines after)
           (sym (place_missing path c.loop-k.at (length us) (c.in-Some.skipped, change_of c.in-Some.next c.next.new.self) (drop k (take c.args.kids items)) (drop (k + 1) (take c.args.kids items)) us left.0 c.if-skipped-children.true (omega arith))) h);
-      room = c.loop-k.invariant.room;
     }
 
 pub add_kids-add_next-requires : goal.add_kids-add_next-requires
@@ -78,7 +77,6 @@ add_kids-loop-k-preserved t c =
           (drop k (take c.args.kids items)) (drop (k + 1) (take c.args.kids items)) us u c.loop-k.lines c.add_next.new.lines after left.0 (omega (arith, c.if-skipped-children.false)) c.index-children-at.is
           (subst (λ p. AddsLines (map line (differences p (changed change u) u)) c.loop-k.lines c.add_next.new.lines)
           (c.in_ok-push.ensures.items ∙ ap (λ p. p ++ place ∷ []) path) c.in_ok-add_next.ensures.ok) h);
-      room = omega (arith, c.loop-k.invariant.room, c.in_ok-add_next.ensures.room);
     }
 
 pub add_kids-returns-clause-ok : goal.add_kids-returns-clause-ok

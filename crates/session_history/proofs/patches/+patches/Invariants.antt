@@ -1,4 +1,4 @@
-use Rattle.std.proofs.Common.{◌≡◌, ◌≤◌, ◌+◌, ◌*◌, vec_capacity, length, map, take, drop}
+use Rattle.std.proofs.Common.{◌≡◌, ◌≤◌, ◌+◌, ◌*◌, length, map, take, drop}
 use Rattle.term_changes.specs.Reading.{items_weight}
 use Rattle.session_history.specs.Differences.{difference_line}
 use Rattle.session_history.specs.inside.Lined.{AddsLines}
@@ -20,5 +20,4 @@ invariant-add_kids-loop-k l = record {
   reader : l.reader ≡ drop l._k l.initial.reader;
   lines : (c : CountedLines) → AddsLines (map (difference_line l.name) (differences_of l.initial.path.items l.at (drop l._k (take l.kids l.initial.reader)) (drop l.at l.children))) l.lines c
       → AddsLines (map (difference_line l.name) (differences_of l.initial.path.items 0 (take l.kids l.initial.reader) l.children)) l.initial.lines c;
-  room : vec_capacity l.initial.lines.text ≤ vec_capacity l.lines.text;
 }

@@ -5,8 +5,8 @@ use Rattle.session_history.proofs.PatchDifferences.{nothing_read}
 use Rattle.session_history.proofs.AddedLemmas.{adds_equal}
 use Rattle.session_history.proofs.patches.add_patch.Goals as goal
 
-pub returns-in_default-clause-ok : goal.returns-in_default-clause-ok
-returns-in_default-clause-ok c =
+pub returns-in_default : goal.returns-in_default
+returns-in_default c =
     let path = c.args.path.now.items in
     let u = c.args.tree.now in
     adds_equal _ _ (ap (map (difference_line c.args.name.now)) (ap (λ it. differences path (changed it u) u) (sym c.reader-reader.ensures) ∙ nothing_read path c.reader-reader.result u c.in_default.ensures))

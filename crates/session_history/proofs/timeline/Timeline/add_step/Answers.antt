@@ -17,7 +17,7 @@ add_entries-requires-clause-compact c = subst IsCompact (sym c.changes.ensures) 
 pub returns-in_ok-add_entries-in-Some-clause-ok : goal.returns-in_ok-add_entries-in-Some-clause-ok
 returns-in_ok-add_entries-in-Some-clause-ok c =
     adds_changes (option_copied c.args.name) c.args.self.now (entries_of c.changes.result.now) c.store-store.result.now c.args.lines.now c.add_entries.new.lines c.store-store.ensures
-    (subst (λ es. LeadsToBase es c.args.self.now) (sym c.changes.ensures) (c.in-Some.ensures.base c.requires)) c.in_ok-add_entries-in-Some.ensures.ok
+    (subst (λ es. LeadsToBase es c.args.self.now) (sym c.changes.ensures) (c.in-Some.ensures.base c.requires)) c.in_ok-add_entries-in-Some.ensures
 
 pub returns-in-None-clause-refused : goal.returns-in-None-clause-refused
 returns-in-None-clause-refused c = inr (c.in-None.ensures.none c.requires)
