@@ -13,11 +13,11 @@ mod step;
 mod store;
 
 pub use log::Log;
-pub use reading::{Entries, Held};
+pub use reading::{HeldEntry, LogEntries};
 #[doc(hidden)]
 pub use relation::Relation;
 #[doc(hidden)]
 pub use slots::Slots;
-pub use step::{Changes, Parts, Step, Whole};
+pub use step::{Changes, PatchedSubterm, Step, Whole};
 pub use store::Store;
 pub use term_changes::{Entry, Kept, Plan, Replaced, Text};

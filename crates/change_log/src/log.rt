@@ -8,7 +8,7 @@ ghost use Rattle.term_changes.specs.LogView.{entry_of};
 ghost use Rattle.term_changes.specs.inside.LogView.{entries, depths};
 
 use crate::compact::compact;
-use crate::{Entries, Store};
+use crate::{LogEntries, Store};
 use std::alloc::Global;
 use std::marker::Model;
 use term_changes::{Entry, Kept, Plan, Replaced};
@@ -75,10 +75,10 @@ impl Log {
     }
 
     /// The entries, to be read.
-    pub fn entries(&self) -> Entries<'_>
+    pub fn entries(&self) -> LogEntries<'_>
         ensures { result ≡ self.now }
     {
-        Entries {
+        LogEntries {
             replaced: self.replaced.as_slice(),
             paths: self.paths.as_slice(),
         }

@@ -2,27 +2,29 @@
 
 ghost use Rattle.change_log.specs.Reading.{IsNextEntry};
 
-use crate::Log;
 use std::marker::Model;
 use term_changes::{Kept, Replaced};
 
 /// An entry of a log, to be read.
 #[derive(Clone, Copy)]
-pub struct Held<'a> {
+pub struct HeldEntry<'a> {
+    /// The slot of the tree or module.
     pub slot: usize,
+    /// The path in the tree; empty for a module.
     pub path: &'a [usize],
+    /// What was there.
     pub kept: &'a Kept,
 }
 
 /// The entries of a log that are yet to be read, the oldest first.
 #[derive(Drop)]
-pub struct Entries<'a> {
+pub struct LogEntries<'a> {
     pub(crate) replaced: &'a [Replaced],
     // The paths of all entries, concatenated.
     pub(crate) paths: &'a [usize],
 }
 
-impl<'a> Model for Entries<'a> {
+impl<'a> Model for LogEntries<'a> {
     ghost use Rattle.std.specs.Prelude.{◌≡◌, List, length};
     ghost use Rattle.std.specs.Coded.{coded_list};
     ghost use Rattle.term_changes.specs.Entries.{Entry};
@@ -39,16 +41,16 @@ impl<'a> Model for Entries<'a> {
     ghost invariant = { λ a. depths a.replaced.now ≡ length a.paths.now };
 }
 
-impl<'a> Entries<'a> {
+impl<'a> LogEntries<'a> {
     /// The next entry; `None` after the last one.
-    pub fn next(&mut self) -> Option<Held<'a>>
+    pub fn next(&mut self) -> Option<HeldEntry<'a>>
         ensures { IsNextEntry self.old result self.new }
     {
         let (first, rest) = self.replaced.split_first()?;
         let (path, paths) = self.paths.split_at(first.depth);
         self.replaced = rest;
         self.paths = paths;
-        Some(Held {
+        Some(HeldEntry {
             slot: first.slot,
             path,
             kept: &first.kept,

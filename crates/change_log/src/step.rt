@@ -13,8 +13,8 @@ use std::marker::Model;
 use term_changes::{Entry, Kept, Patch, Text};
 use term_core::NoMemory;
 
-/// What the changes of a step replaced, the oldest first. A step with one change of a whole tree or
-/// module text takes no memory.
+/// What the changes of a step replaced, the oldest first. A step of one change with an empty path
+/// takes no memory.
 #[derive(Drop)]
 pub struct Step {
     changes: Changes,
@@ -23,26 +23,32 @@ pub struct Step {
 /// The changes of a step.
 #[derive(Drop)]
 pub enum Changes {
-    /// One change, of a whole tree or module text.
+    /// One change with an empty path: of a tree, its root or its annotations there, or of a module
+    /// text.
     One(Whole),
     /// Changes of subterms of one tree, of which none lies within another.
-    Patched(Parts),
+    Patched(PatchedSubterm),
     /// All other changes.
     Logged(Log),
 }
 
-/// What changes in the subterm that a path leads to in a slot's tree replaced.
+/// A patch of the subterm at `path` in the tree of a slot. It has what was there before.
 #[derive(Drop)]
-pub struct Parts {
+pub struct PatchedSubterm {
+    /// The slot of the tree.
     pub slot: usize,
+    /// The path of the subterm; empty for the whole tree.
     pub path: Vec<usize>,
+    /// What was there, for each place that changed.
     pub patch: Patch,
 }
 
-/// What a change of a whole tree or module text replaced.
+/// What a change with an empty path replaced.
 #[derive(Drop)]
 pub struct Whole {
+    /// The slot of the tree or module.
     pub slot: usize,
+    /// What was there.
     pub kept: Kept,
 }
 
@@ -118,7 +124,7 @@ impl Step {
         ensures store { store.new ≡ after (patch_entries slot path.items patch) store.old }
         ensures compact { IsCompact result }
     {
-        let mut parts = Parts { slot, path, patch };
+        let mut parts = PatchedSubterm { slot, path, patch };
         parts.exchange(store);
         Step {
             changes: Changes::Patched(parts),
@@ -204,7 +210,7 @@ impl Whole {
     }
 }
 
-impl Parts {
+impl PatchedSubterm {
     // Exchanges the held terms with what stands at their places, which undoes the changes and
     // redoes them.
     fn exchange(&mut self, store: &mut Store)

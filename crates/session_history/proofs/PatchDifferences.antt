@@ -7,8 +7,8 @@ use Rattle.strategy_meaning.proofs.SameLemmas.{head-self}
 use Rattle.term_changes.specs.Change.{Change, same, inside, replaced, Changes, no_more, and_then, changed, changed_all}
 use Rattle.term_changes.specs.Items.{Item, after_left, items_changes, first_change}
 use Rattle.term_changes.specs.Reading.{IsNextItem, weight, weights, items_weight}
-use Rattle.term_changes.specs.declared.reading.Next.{Next}
-use Rattle.term_changes.specs.declared.reading.Next.TheVariants.{Term, Node}
+use Rattle.term_changes.specs.declared.reading.PatchItem.{PatchItem}
+use Rattle.term_changes.specs.declared.reading.PatchItem.TheVariants.{Term, Node}
 use Rattle.term_changes.proofs.FollowLemmas.{length-changed}
 use Rattle.term_changes.proofs.WalkLemmas.{changed_nowhere}
 use Rattle.session_history.specs.Differences.{Difference, annotated, differences, differences_from}
@@ -107,12 +107,12 @@ weight-parts (suc k) (x ∷ xs) = omega (arith, weight-parts k xs)
 
 -- ---- what was read
 
-pub item_read : (old new : List Item) (skipped : ℕ) (next : Next) → IsNextItem old (Some (skipped, next)) new
+pub item_read : (old new : List Item) (skipped : ℕ) (next : PatchItem) → IsNextItem old (Some (skipped, next)) new
     → (kids_of next ≤ length new) × (old ≡ (skipped, change_of next new) ∷ drop (kids_of next) new)
 item_read old new skipped (Term t) h = (omega arith, h)
 item_read old new skipped (Node kids) h = (h.1, h.2)
 
-pub less_to_read : (old new : List Item) (skipped : ℕ) (next : Next) → IsNextItem old (Some (skipped, next)) new → items_weight new + 1 ≡ items_weight old
+pub less_to_read : (old new : List Item) (skipped : ℕ) (next : PatchItem) → IsNextItem old (Some (skipped, next)) new → items_weight new + 1 ≡ items_weight old
 less_to_read old new skipped (Term t) h = rw h (omega arith)
 less_to_read old new skipped (Node kids) h = rw h.2 (omega (arith, weights-items (take kids new), weight-parts kids new))
 
@@ -125,7 +125,7 @@ nothing_read path items t e =
     ap (λ xs. differences path (changed (first_change xs) t) t) e ∙ node_differs path no_more t ∙ from_same path 0 (of_list (children t))
 
 -- the items from number k on, after one was read
-pub items_left : (items old new : List Item) (k kids skipped : ℕ) (next : Next) → k < kids → drop k items ≡ old → IsNextItem old (Some (skipped, next)) new
+pub items_left : (items old new : List Item) (k kids skipped : ℕ) (next : PatchItem) → k < kids → drop k items ≡ old → IsNextItem old (Some (skipped, next)) new
     → (drop k (take kids items) ≡ (skipped, change_of next new) ∷ drop (k + 1) (take kids items)) × (drop (k + 1) items ≡ drop (kids_of next) new)
 items_left items old new k kids skipped next h e read =
     next_item items (drop (kids_of next) new) (skipped, change_of next new) k kids h (e ∙ (item_read old new skipped next read).1)
@@ -156,7 +156,7 @@ all_read path at k kids items us h =
     ap (λ xs. differences_of path at xs us) (drop_all k (take kids items) (omega (arith, h, length-take kids items))) ∙ from_same path at (of_list us)
 
 -- a node was read
-pub node_read : (path : List ℕ) (next : Next) (kids : ℕ) (items : List Item) (us : List Tree) (t : Tree) → next ≡ Node kids → us ≡ children t
+pub node_read : (path : List ℕ) (next : PatchItem) (kids : ℕ) (items : List Item) (us : List Tree) (t : Tree) → next ≡ Node kids → us ≡ children t
     → differences_of path 0 (take kids items) us ≡ differences path (changed (change_of next items) t) t
 node_read path next kids items us t is e =
     ap (differences_of path 0 (take kids items)) e

@@ -20,7 +20,7 @@ use crate::differences::{add_annotations, add_differences, add_text, add_tree};
 use crate::lines::{CountedLines, append_counted};
 use crate::patches::add_patch;
 use crate::{Refusal, Timeline};
-use change_log::{Changes, Held, Kept, Log, Parts, Store, Text, Whole};
+use change_log::{Changes, HeldEntry, Kept, Log, PatchedSubterm, Store, Text, Whole};
 use std::alloc::Global;
 use term_core::{Label, NoMemory, Term};
 use term_paths::at_parts;
@@ -112,7 +112,7 @@ fn is_asked(name: Option<&Label>, label: &Label) -> bool
 }
 
 // The name that the entry is of.
-fn name_of<'a>(store: &'a Store, held: Held<'_>) -> Option<&'a Label>
+fn name_of<'a>(store: &'a Store, held: HeldEntry<'_>) -> Option<&'a Label>
     ensures named { IfSome result (λ name. IsNamed store.now name.now (held_entry held.entry)) }
     ensures there { HasSlot store.now (held_entry held.entry) → IsSome result }
 {
@@ -141,7 +141,7 @@ fn add_whole(
     ensures { OnOk result (AddsLines (log_lines (option_copied name.entry) (whole_entry whole.now ∷ []) store.now) lines.old lines.new) }
 {
     names_are_distinct(store);
-    let held = Held {
+    let held = HeldEntry {
         slot: whole.slot,
         path: &[],
         kept: &whole.kept,
@@ -154,7 +154,7 @@ fn add_whole(
 
 fn add_parts(
     store: &Store,
-    parts: &Parts,
+    parts: &PatchedSubterm,
     name: Option<&Label>,
     lines: &mut CountedLines,
 ) -> Result<(), NoMemory>
@@ -199,7 +199,7 @@ fn add_log(
 #[derive(Clone, Copy)]
 struct NamedEntry<'a> {
     name: &'a Label,
-    held: Held<'a>,
+    held: HeldEntry<'a>,
 }
 
 // The entries of the log, with their names.
@@ -255,7 +255,7 @@ fn add_asked(
     add_held(store, it.name.bytes(), it.held, path, lines)
 }
 
-fn is_of_text(held: Held<'_>) -> bool
+fn is_of_text(held: HeldEntry<'_>) -> bool
     ensures { result ≡ is_of_text (held_entry held.entry) }
 {
     matches!(held.kept, Kept::Text(_))
@@ -265,7 +265,7 @@ fn is_of_text(held: Held<'_>) -> bool
 fn add_held(
     store: &Store,
     name: &[u8],
-    held: Held<'_>,
+    held: HeldEntry<'_>,
     path: &mut Vec<usize>,
     lines: &mut CountedLines,
 ) -> Result<(), NoMemory>

@@ -8,7 +8,7 @@ ghost use Rattle.session_history.specs.inside.ReadPatches.{kids_of, change_of, d
 
 use crate::differences::add_differences;
 use crate::lines::CountedLines;
-use term_changes::{Next, Patch, Reader};
+use term_changes::{Patch, PatchItem, PatchReader};
 use term_core::{NoMemory, Term};
 
 /// Adds a line for each place where a subterm differs from the one before. The patch has what was
@@ -34,8 +34,8 @@ pub(crate) fn add_patch(
 fn add_next(
     name: &[u8],
     path: &mut Vec<usize>,
-    next: Next<'_>,
-    reader: &mut Reader<'_>,
+    next: PatchItem<'_>,
+    reader: &mut PatchReader<'_>,
     tree: &Term,
     lines: &mut CountedLines,
 ) -> Result<(), NoMemory>
@@ -45,8 +45,8 @@ fn add_next(
     ensures path { OnOk result (path.new.items ≡ path.old.items) }
 {
     match next {
-        Next::Term(old) => add_differences(name, path, old, tree, lines),
-        Next::Node(kids) => add_kids(name, path, kids, reader, tree.children(), lines),
+        PatchItem::Term(old) => add_differences(name, path, old, tree, lines),
+        PatchItem::Node(kids) => add_kids(name, path, kids, reader, tree.children(), lines),
     }
 }
 
@@ -56,7 +56,7 @@ fn add_kids(
     name: &[u8],
     path: &mut Vec<usize>,
     kids: usize,
-    reader: &mut Reader<'_>,
+    reader: &mut PatchReader<'_>,
     children: &[Term],
     lines: &mut CountedLines,
 ) -> Result<(), NoMemory>
@@ -85,11 +85,11 @@ fn add_kids(
 }
 
 // Passes over what was read, and over the items that belong to it: its place isn't there.
-fn pass(next: Next<'_>, reader: &mut Reader<'_>)
+fn pass(next: PatchItem<'_>, reader: &mut PatchReader<'_>)
     requires { kids_of next ≤ length reader.old }
     ensures { reader.new ≡ drop (kids_of next.entry) reader.old }
 {
-    let Next::Node(kids) = next else {
+    let PatchItem::Node(kids) = next else {
         return;
     };
     for _k in 0..kids {

@@ -3,12 +3,12 @@ use Rattle.std.specs.Prelude.{◌≡◌, ℕ, suc, ◌+◌, ◌≤◌, List, [],
 use Rattle.std.specs.declared.option.Option.{Option}
 use Rattle.term_changes.specs.Change.{Change, same, inside, replaced, Changes, no_more, and_then}
 use Rattle.term_changes.specs.Items.{Item, items_changes}
-use Rattle.term_changes.specs.declared.reading.Next.{Next}
-use Rattle.term_changes.specs.declared.reading.Next.TheVariants.{Term, Node}
+use Rattle.term_changes.specs.declared.reading.PatchItem.{PatchItem}
+use Rattle.term_changes.specs.declared.reading.PatchItem.TheVariants.{Term, Node}
 
 -- From the first items to the second this was read: the term of the first one, or that it is a node,
 -- whose items come first then.
-abbrev pub IsNextItem : List Item → Option (ℕ × Next) → List Item → Type 0
+abbrev pub IsNextItem : List Item → Option (ℕ × PatchItem) → List Item → Type 0
 IsNextItem old None new = old ≡ []
 IsNextItem old (Some (skipped, Term t)) new = old ≡ (skipped, replaced t.now) ∷ new
 IsNextItem old (Some (skipped, Node kids)) new =

@@ -18,5 +18,5 @@ pub use draft::PlaceMark;
 pub use entry::{Entry, Kept};
 pub use patch::Patch;
 pub use plan::{Plan, Replaced};
-pub use reading::{Next, Reader};
+pub use reading::{PatchItem, PatchReader};
 pub use text::Text;

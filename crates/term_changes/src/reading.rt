@@ -1,6 +1,6 @@
 //! Reading a patch, without changing it.
 
-ghost use Rattle.std.specs.Prelude.{◌≡◌, ◌∷◌, [], length, None};
+ghost use Rattle.std.specs.Prelude.{◌≡◌};
 ghost use Rattle.term_changes.specs.Items.{first_change};
 ghost use Rattle.term_changes.specs.Reading.{IsNextItem};
 
@@ -11,22 +11,22 @@ use term_core::Term;
 
 /// What comes next in a patch.
 #[derive(Clone, Copy)]
-pub enum Next<'a> {
+pub enum PatchItem<'a> {
     /// A term for a place.
     Term(&'a Term),
-    /// A node. So many places below its children follow.
+    /// A node. The next so many items belong to it.
     Node(usize),
 }
 
 /// The places of a patch that are yet to be read, the first one first. Contracts see places of one
 /// node, as with a draft.
 #[derive(Drop)]
-pub struct Reader<'a> {
+pub struct PatchReader<'a> {
     marks: &'a [PlaceMark],
     terms: &'a [Term],
 }
 
-impl<'a> Model for Reader<'a> {
+impl<'a> Model for PatchReader<'a> {
     ghost use Rattle.std.specs.Prelude.{List, length, reverse};
     ghost use Rattle.term_changes.specs.Items.{Item};
     ghost use Rattle.term_changes.specs.inside.ItemCodes.{items_code};
@@ -43,34 +43,34 @@ impl<'a> Model for Reader<'a> {
 
 impl Patch {
     /// The places, to be read.
-    pub fn reader(&self) -> Reader<'_>
+    pub fn reader(&self) -> PatchReader<'_>
         ensures { first_change result ≡ self.now }
     {
-        Reader {
+        PatchReader {
             marks: self.marks.as_slice(),
             terms: self.terms.as_slice(),
         }
     }
 }
 
-impl<'a> Reader<'a> {
+impl<'a> PatchReader<'a> {
     /// What comes next, and how many children are left as they are between the place before it and
     /// this one; `None` at the end.
     ///
     /// For example, the patch with x for `/1/1` and y for `/2` gives `Node(2)`, `Node(1)` with 1
     /// child left, x with 1 child left, and y.
-    pub fn next(&mut self) -> Option<(usize, Next<'a>)>
+    pub fn next(&mut self) -> Option<(usize, PatchItem<'a>)>
         ensures { IsNextItem self.old result self.new }
     {
         let (mark, marks) = self.marks.split_last()?;
         self.marks = marks;
         if mark.kids > 0 {
-            return Some((mark.skipped, Next::Node(mark.kids)));
+            return Some((mark.skipped, PatchItem::Node(mark.kids)));
         }
         let Some((term, terms)) = self.terms.split_last() else {
             unreachable!()
         };
         self.terms = terms;
-        Some((mark.skipped, Next::Term(term)))
+        Some((mark.skipped, PatchItem::Term(term)))
     }
 }

@@ -1,6 +1,6 @@
 use Rattle.std.proofs.Common.{suc, ◌-◌, ◌≡◌, sym, ◌∙◌, arith}
 use Rattle.term_changes.proofs.ReadingLemmas.{enough_kids, node_read}
-use Rattle.term_changes.proofs.reading.Reader.next.Goals as goal
+use Rattle.term_changes.proofs.reading.PatchReader.next.Goals as goal
 
 pub returns-then-mark-gt0 : goal.returns-then-mark-gt0
 returns-then-mark-gt0 c =

@@ -1,7 +1,7 @@
 use Rattle.std.proofs.Common.{◌∙◌, sym, ap}
 use Rattle.term_changes.specs.PatchLaws.{patch_entries, patched, taken_slot}
 use Rattle.term_changes.proofs.FlipLemmas.{leads_both_ways, keeps_both_ways, patches_are_compact}
-use Rattle.change_log.proofs.step.Parts.exchange.Goals as goal
+use Rattle.change_log.proofs.step.PatchedSubterm.exchange.Goals as goal
 
 pub returns-clause-back : goal.returns-clause-back
 returns-clause-back c =
