@@ -6,13 +6,13 @@ use Rattle.term_core.proofs.TreeLemmas.{to_list-of_list, of_list-to_list}
 use Rattle.strategy_meaning.proofs.SameLemmas.{head-self}
 use Rattle.term_changes.specs.Change.{Change, same, inside, replaced, Changes, no_more, and_then, changed, changed_all}
 use Rattle.term_changes.specs.Items.{Item, after_left, items_changes, first_change}
-use Rattle.term_changes.specs.Reading.{IsNextItem, weight, weights, items_weight}
+use Rattle.term_changes.specs.Reading.{IsNextItem}
 use Rattle.term_changes.specs.declared.reading.PatchItem.{PatchItem}
 use Rattle.term_changes.specs.declared.reading.PatchItem.TheVariants.{Term, Node}
 use Rattle.term_changes.proofs.FollowLemmas.{length-changed}
 use Rattle.term_changes.proofs.WalkLemmas.{changed_nowhere}
 use Rattle.session_history.specs.Differences.{Difference, annotated, differences, differences_from}
-use Rattle.session_history.specs.inside.ReadPatches.{kids_of, change_of, differences_of}
+use Rattle.session_history.specs.inside.ReadPatches.{kids_of, change_of, differences_of, weights, items_weight}
 use Rattle.session_history.proofs.DifferenceLemmas.{trees_same, as_many_by, differences_same, from_same, annotated_same}
 
 -- a node that is changed inside

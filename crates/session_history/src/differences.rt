@@ -1,12 +1,12 @@
 //! How a tree differs from the one that was there before.
 
-ghost use Rattle.std.specs.Prelude.{◌≡◌, ◌↔◌, [], IsTrue, OnOk, map, length, option_copied};
+ghost use Rattle.std.specs.Prelude.{◌≡◌, [], OnOk, map, length, option_copied};
 ghost use Rattle.term_core.specs.Tree.{of_list};
 ghost use Rattle.session_history.specs.Differences.{differences as differences_of, differences_from, annotated, difference_line, tree_lines, text_lines};
 ghost use Rattle.session_history.specs.inside.Lined.{AddsLines, same_root, same_kind};
 
 use crate::lines::{CountedLines, Side};
-use term_core::{Kind, NoMemory, Term};
+use term_core::{Kind, NoMemory, Term, all_equal};
 
 /// Adds the lines of the tree of a name.
 pub(crate) fn add_tree(
@@ -96,24 +96,10 @@ pub(crate) fn add_annotations(
 ) -> Result<(), NoMemory>
     ensures { OnOk result (AddsLines (map (difference_line name.now) (annotated path.now (of_list old.now) (of_list new.now))) lines.old lines.new) }
 {
-    if are_equal(old, new) {
+    if all_equal(old, new) {
         return Ok(());
     }
     lines.add_change(name, path, Side::Annotations(old), Side::Annotations(new))
-}
-
-fn are_equal(terms: &[Term], others: &[Term]) -> bool
-    ensures { IsTrue result ↔ (terms.now ≡ others.now) }
-{
-    if terms.len() != others.len() {
-        return false;
-    }
-    for (term, other) in terms.iter().zip(others) {
-        if !term.equals(other) {
-            return false;
-        }
-    }
-    true
 }
 
 // Whether two terms have the same head and as many children.

@@ -1,7 +1,7 @@
 -- Reading a patch.
-use Rattle.std.specs.Prelude.{◌≡◌, ℕ, suc, ◌+◌, ◌≤◌, List, [], ◌∷◌, take, drop, length, Some, None}
+use Rattle.std.specs.Prelude.{◌≡◌, ℕ, ◌≤◌, List, [], ◌∷◌, take, drop, length, Some, None}
 use Rattle.std.specs.declared.option.Option.{Option}
-use Rattle.term_changes.specs.Change.{Change, same, inside, replaced, Changes, no_more, and_then}
+use Rattle.term_changes.specs.Change.{inside, replaced}
 use Rattle.term_changes.specs.Items.{Item, items_changes}
 use Rattle.term_changes.specs.declared.reading.PatchItem.{PatchItem}
 use Rattle.term_changes.specs.declared.reading.PatchItem.TheVariants.{Term, Node}
@@ -13,18 +13,3 @@ IsNextItem old None new = old ≡ []
 IsNextItem old (Some (skipped, Term t)) new = old ≡ (skipped, replaced t.now) ∷ new
 IsNextItem old (Some (skipped, Node kids)) new =
     (1 ≤ kids) × (kids ≤ length new) × (old ≡ (skipped, inside (items_changes (take kids new))) ∷ drop kids new)
-
--- How much there is to read in a change. It falls with each item.
-abbrev mutual
-  pub weight : Change → ℕ
-  weight same = 0
-  weight (inside cs) = suc (weights cs)
-  weight (replaced t) = 1
-
-  pub weights : Changes → ℕ
-  weights no_more = 0
-  weights (and_then c cs) = weight c + weights cs
-
-abbrev pub items_weight : List Item → ℕ
-items_weight [] = 0
-items_weight (x ∷ xs) = weight x.1 + items_weight xs

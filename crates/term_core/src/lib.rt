@@ -11,7 +11,7 @@ pub use kind::Kind;
 pub use label::{Label, LabelFault, MAX_LABEL};
 pub use memory::NoMemory;
 pub use name::{Name, begins_word, continues_word, is_word};
-pub use term::Term;
+pub use term::{Term, all_equal};
 
 /// The greatest sum of a level and the height of a term that fits there.
 pub const MAX_HEIGHT: u64 = 1000;

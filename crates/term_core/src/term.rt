@@ -311,8 +311,9 @@ impl Node {
     }
 }
 
+/// Whether the lists have equal terms in the same order, annotations included.
 #[cycle(equals)]
-fn all_equal(terms: &[Term], others: &[Term]) -> bool
+pub fn all_equal(terms: &[Term], others: &[Term]) -> bool
     ensures { IsTrue result ↔ (terms.now ≡ others.now) }
 {
     if terms.len() != others.len() {

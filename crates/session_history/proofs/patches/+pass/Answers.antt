@@ -1,6 +1,6 @@
 use Rattle.std.proofs.Common.{◌≤◌, Some, length, sym, ap, subst, ◌∙◌, arith}
-use Rattle.term_changes.specs.Reading.{IsNextItem, items_weight}
-use Rattle.session_history.specs.inside.ReadPatches.{kids_of}
+use Rattle.term_changes.specs.Reading.{IsNextItem}
+use Rattle.session_history.specs.inside.ReadPatches.{kids_of, items_weight}
 use Rattle.session_history.proofs.PatchDifferences.{next_there, item_read, less_to_read, weight-left, items_left}
 use Rattle.session_history.proofs.patches.+pass.Goals as goal
 

@@ -1,5 +1,5 @@
 use Rattle.std.proofs.Common.{◌≡◌, drop}
-use Rattle.term_changes.specs.Reading.{items_weight}
+use Rattle.session_history.specs.inside.ReadPatches.{items_weight}
 use Rattle.session_history.proofs.patches.+pass.Given as goal
 
 abbrev pub decreases-pass : goal.decreases-pass

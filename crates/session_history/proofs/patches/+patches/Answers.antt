@@ -4,10 +4,10 @@ use Rattle.std.proofs.lemmas.Result.{on_ok_weaker}
 use Rattle.term_core.specs.Tree.{Tree}
 use Rattle.term_changes.specs.Change.{changed}
 use Rattle.term_changes.specs.Items.{Item}
-use Rattle.term_changes.specs.Reading.{IsNextItem, items_weight}
+use Rattle.term_changes.specs.Reading.{IsNextItem}
 use Rattle.session_history.specs.Differences.{differences, difference_line}
 use Rattle.session_history.specs.inside.Lined.{AddsLines}
-use Rattle.session_history.specs.inside.ReadPatches.{change_of, differences_of}
+use Rattle.session_history.specs.inside.ReadPatches.{change_of, differences_of, items_weight}
 use Rattle.session_history.specs.declared.lines.CountedLines.{CountedLines}
 use Rattle.session_history.proofs.AddedLemmas.{adds_equal, adds_then, path_back}
 use Rattle.session_history.proofs.PatchDifferences.{next_there, item_read, less_to_read, weight-left, items_left, place_missing, place_there, all_read, node_read}

@@ -1,8 +1,7 @@
 use Rattle.std.proofs.Common.{◌≡◌, ◌≤◌, ◌+◌, ◌*◌, length, map, take, drop}
-use Rattle.term_changes.specs.Reading.{items_weight}
 use Rattle.session_history.specs.Differences.{difference_line}
 use Rattle.session_history.specs.inside.Lined.{AddsLines}
-use Rattle.session_history.specs.inside.ReadPatches.{differences_of}
+use Rattle.session_history.specs.inside.ReadPatches.{differences_of, items_weight}
 use Rattle.session_history.specs.declared.lines.CountedLines.{CountedLines}
 use Rattle.session_history.proofs.patches.+patches.Given as goal
 
