@@ -7,7 +7,7 @@ use Rattle.strategy_syntax.specs.Syntax.{Pattern, Patterns, no_patterns, and_pat
 use Rattle.strategy_syntax.specs.Resolved.{ResolvedStrategy, ResolvedStrategies, no_strategies, and_strategy, resolveds_of, resolved_list, ResolvedPattern, resolved_pattern_list, resolved_patterns_of}
 use Rattle.strategy_syntax.specs.ResolvedView.{resolved_of}
 use Rattle.strategy_syntax.specs.declared.resolved.ResolvedForm.{ResolvedForm}
-use Rattle.strategy_syntax.proofs.PlaceLemmas.{resolved_pattern_list-of}
+use Rattle.strategy_syntax.proofs.ResolvedPatternLemmas.{resolved_pattern_list-of}
 use Rattle.strategy_syntax.proofs.ResolvedLemmas.{resolved_list-resolveds_of}
 use Rattle.strategy_syntax.proofs.StrategyLemmas.{depths-item}
 use Rattle.strategy_check.specs.Tables.{Table, definition_number}

@@ -1,7 +1,7 @@
 pub mod FaultLemmas
 pub mod FirstLemmas
 pub mod GroupLemmas
-pub mod PlaceLemmas
+pub mod ResolvedPatternLemmas
 pub mod BodyLemmas
 pub mod ListLemmas
 pub mod MentionLemmas

@@ -1,5 +1,5 @@
 //! Resolving patterns: numbers for variables.
-#![tactic(auto, using(crate::proofs::PlaceLemmas::resolved_pattern_rules))]
+#![tactic(auto, using(crate::proofs::ResolvedPatternLemmas::resolved_pattern_rules))]
 
 ghost use Rattle.std.specs.Prelude.{◌≡◌, IfOk};
 ghost use Rattle.strategy_syntax.specs.Syntax.{patterns_of};

@@ -140,7 +140,7 @@ pub(crate) struct InTable<'s, 't> {
 }
 
 impl<'s, 't> VariableCells for InTable<'s, 't> {
-    ghost variables = { λ s. cells_in (scope_at (scopes_of s.scopes.now) s.scope) };
+    ghost cells = { λ s. cells_in (scope_at (scopes_of s.scopes.now) s.scope) };
 
     fn cell(&self, variable: usize) -> Option<usize> {
         self.scopes.cell(self.scope, variable)

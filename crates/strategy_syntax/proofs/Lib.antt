@@ -1,5 +1,5 @@
 pub mod PatternLemmas
 pub mod StrategyLemmas
-pub mod PlaceLemmas
+pub mod ResolvedPatternLemmas
 pub mod ResolvedLemmas
 pub mod RenumberingLemmas

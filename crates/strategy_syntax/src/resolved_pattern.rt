@@ -9,14 +9,14 @@ use std::marker::Model;
 /// A resolved pattern. A variable is the number of its binder among the enclosing binders of
 /// variables, counted from the outermost of its definition or strategy.
 #[derive(Drop)]
-#[cycle(place)]
+#[cycle(resolved_pattern)]
 pub struct ResolvedPattern {
     form: ResolvedPatternForm,
 }
 
 /// The forms of a resolved pattern; they are those of a pattern.
 #[derive(Drop)]
-#[cycle(place)]
+#[cycle(resolved_pattern)]
 pub enum ResolvedPatternForm {
     /// `_`, which matches any term.
     Wildcard,

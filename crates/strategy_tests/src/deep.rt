@@ -80,17 +80,17 @@ fn resolved_is_made(alloc: Global) -> Result<bool, NoMemory> {
     Ok(matches!(strategy.form(), ResolvedForm::Seq(_)))
 }
 
-fn place_is_made(alloc: Global) -> Result<bool, NoMemory> {
-    let mut place = ResolvedPattern::new(ResolvedPatternForm::Variable(0));
+fn resolved_pattern_is_made(alloc: Global) -> Result<bool, NoMemory> {
+    let mut pattern = ResolvedPattern::new(ResolvedPatternForm::Variable(0));
     for _ in 0..DEPTH {
-        place = ResolvedPattern::new(ResolvedPatternForm::At(0, Box::new(alloc, place)?));
+        pattern = ResolvedPattern::new(ResolvedPatternForm::At(0, Box::new(alloc, pattern)?));
     }
-    Ok(matches!(place.form(), ResolvedPatternForm::At(0, _)))
+    Ok(matches!(pattern.form(), ResolvedPatternForm::At(0, _)))
 }
 
 #[test]
 fn deep_resolved_syntax_is_made(rt: HostRuntime) -> Result<(), Fail> {
     assert!(rt; resolved_is_made(rt.alloc())?);
-    assert!(rt; place_is_made(rt.alloc())?);
+    assert!(rt; resolved_pattern_is_made(rt.alloc())?);
     Ok(())
 }

@@ -10,7 +10,7 @@ use strategy_syntax::{
 };
 use term_core::{NoMemory, Term};
 
-fn place() -> ResolvedPattern {
+fn unknown_variable() -> ResolvedPattern {
     ResolvedPattern::new(ResolvedPatternForm::Variable(1))
 }
 
@@ -60,8 +60,8 @@ fn child_zero(alloc: Global) -> Result<ResolvedForm, NoMemory> {
 #[test]
 fn unknown_numbers_fail(rt: HostRuntime) -> Result<(), Fail> {
     let alloc = rt.alloc();
-    assert!(rt; fails(alloc, ResolvedForm::Match(place()))?);
-    assert!(rt; fails(alloc, ResolvedForm::Build(place()))?);
+    assert!(rt; fails(alloc, ResolvedForm::Match(unknown_variable()))?);
+    assert!(rt; fails(alloc, ResolvedForm::Build(unknown_variable()))?);
     assert!(rt; fails(alloc, ResolvedForm::Param(0))?);
     assert!(rt;
         fails(

@@ -63,7 +63,7 @@ impl<'t> Cells<'t> {
     ) -> Result<Built<'t>, NoMemory>
         requires { room ≤ MAX_ROOM }
         ensures same { self.new ≡ self.old }
-        ensures ok { IfOk result (λ built. Builds (build_pattern pattern.now (P.variables variables.now) self.old.bindings) room level built) }
+        ensures ok { IfOk result (λ built. Builds (build_pattern pattern.now (P.cells variables.now) self.old.bindings) room level built) }
     {
         if let Some(value) = self.at_once(variables, pattern)? {
             if value.surely_fits(level, room) {
@@ -81,7 +81,7 @@ impl<'t> Cells<'t> {
         variables: &P,
         pattern: &'t ResolvedPattern,
     ) -> Result<Option<Value<'t>>, NoMemory>
-        ensures { IfOk result (λ found. IfSome found (λ value. build_pattern pattern.now (P.variables variables.now) self.now.bindings ≡ Some value)) }
+        ensures { IfOk result (λ found. IfSome found (λ value. build_pattern pattern.now (P.cells variables.now) self.now.bindings ≡ Some value)) }
     {
         match pattern.form() {
             ResolvedPatternForm::Variable(x) => {
@@ -107,7 +107,7 @@ impl<'t> Cells<'t> {
     ) -> Result<Built<'t>, NoMemory>
         requires { room ≤ MAX_ROOM }
         ensures same { self.new ≡ self.old }
-        ensures ok { IfOk result (λ built. Builds (build_pattern pattern.now (P.variables variables.now) self.old.bindings) room level built) }
+        ensures ok { IfOk result (λ built. Builds (build_pattern pattern.now (P.cells variables.now) self.old.bindings) room level built) }
     {
         if !is_flat(pattern) && !self.has_instance(variables, pattern) {
             return Ok(Built::Nothing);
@@ -144,7 +144,7 @@ impl<'t> Cells<'t> {
         variables: &P,
         pattern: &'t ResolvedPattern,
     ) -> Result<Option<Value<'t>>, NoMemory>
-        ensures { IfOk result (λ value. value ≡ build_pattern pattern.now (P.variables variables.now) self.now.bindings) }
+        ensures { IfOk result (λ value. value ≡ build_pattern pattern.now (P.cells variables.now) self.now.bindings) }
     {
         match pattern.form() {
             ResolvedPatternForm::Wildcard => Ok(None),
@@ -181,7 +181,7 @@ impl<'t> Cells<'t> {
         tail: &'t ResolvedPattern,
     ) -> Result<Option<Value<'t>>, NoMemory>
         ensures { IfOk result (λ value. value
-            ≡ build_pattern (with_tail (resolved_patterns_of parts.now) tail.now) (P.variables variables.now) self.now.bindings) }
+            ≡ build_pattern (with_tail (resolved_patterns_of parts.now) tail.now) (P.cells variables.now) self.now.bindings) }
     {
         let after = self.instance(alloc, variables, tail)?;
         let value = self.in_front(alloc, variables, parts, &after);
@@ -200,7 +200,7 @@ impl<'t> Cells<'t> {
         annotations: &'t [ResolvedPattern],
     ) -> Result<Option<Value<'t>>, NoMemory>
         ensures { IfOk result (λ value. value
-            ≡ build_pattern (annotated inner.now (resolved_patterns_of annotations.now)) (P.variables variables.now) self.now.bindings) }
+            ≡ build_pattern (annotated inner.now (resolved_patterns_of annotations.now)) (P.cells variables.now) self.now.bindings) }
     {
         let value = self.instance(alloc, variables, inner)?;
         let with = self.with_all(alloc, variables, &value, annotations);
@@ -219,7 +219,7 @@ impl<'t> Cells<'t> {
         annotations: &'t [ResolvedPattern],
     ) -> Result<Option<Value<'t>>, NoMemory>
         ensures { IfOk result (λ with. with ≡ option_and_then (λ u. option_map (with_annotations u)
-            (build_patterns (resolved_patterns_of annotations.now) (P.variables variables.now) self.now.bindings)) value.now) }
+            (build_patterns (resolved_patterns_of annotations.now) (P.cells variables.now) self.now.bindings)) value.now) }
     {
         match value {
             None => Ok(None),
@@ -237,7 +237,7 @@ impl<'t> Cells<'t> {
         parts: &'t [ResolvedPattern],
     ) -> Result<Option<Value<'t>>, NoMemory>
         ensures { IfOk result (λ value. value
-            ≡ option_map (λ us. made_of kind.entry us []) (build_patterns (resolved_patterns_of parts.now) (P.variables variables.now) self.now.bindings)) }
+            ≡ option_map (λ us. made_of kind.entry us []) (build_patterns (resolved_patterns_of parts.now) (P.cells variables.now) self.now.bindings)) }
     {
         if parts.len() == 1 {
             return over_one(alloc, kind, self.instance(alloc, variables, &parts[0])?);
@@ -260,7 +260,7 @@ impl<'t> Cells<'t> {
         right: &'t ResolvedPattern,
     ) -> Result<Option<Value<'t>>, NoMemory>
         ensures { IfOk result (λ value. value
-            ≡ option_map (λ us. made_of kind.entry us []) (build_patterns (resolved_patterns_of (left.now ∷ right.now ∷ [])) (P.variables variables.now) self.now.bindings)) }
+            ≡ option_map (λ us. made_of kind.entry us []) (build_patterns (resolved_patterns_of (left.now ∷ right.now ∷ [])) (P.cells variables.now) self.now.bindings)) }
     {
         match self.instance(alloc, variables, left)? {
             None => Ok(None),
@@ -279,7 +279,7 @@ impl<'t> Cells<'t> {
         after: &Option<Value<'t>>,
     ) -> Result<Option<Value<'t>>, NoMemory>
         ensures { IfOk result (λ value. value ≡ option_and_then (λ us. option_map (λ vs. list_term (us ++ vs))
-            (option_and_then elements after.now)) (build_patterns (resolved_patterns_of parts.now) (P.variables variables.now) self.now.bindings)) }
+            (option_and_then elements after.now)) (build_patterns (resolved_patterns_of parts.now) (P.cells variables.now) self.now.bindings)) }
     {
         let Some(after) = after else {
             return Ok(None);
@@ -307,7 +307,7 @@ impl<'t> Cells<'t> {
         parts: &'t [ResolvedPattern],
     ) -> Result<Option<Vec<Value<'t>>>, NoMemory>
         ensures { IfOk result (λ all. option_map (λ v. v.items) all
-            ≡ build_patterns (resolved_patterns_of parts.now) (P.variables variables.now) self.now.bindings) }
+            ≡ build_patterns (resolved_patterns_of parts.now) (P.cells variables.now) self.now.bindings) }
     {
         let mut all = Vec::with_capacity(alloc, parts.len())?;
         for part in parts {
@@ -322,7 +322,7 @@ impl<'t> Cells<'t> {
     // Whether there is an instance.
     #[cycle(has_instance)]
     fn has_instance<P: VariableCells>(&self, variables: &P, pattern: &ResolvedPattern) -> bool
-        ensures { result ≡ is_some (build_pattern pattern.now (P.variables variables.now) self.now.bindings) }
+        ensures { result ≡ is_some (build_pattern pattern.now (P.cells variables.now) self.now.bindings) }
     {
         match pattern.form() {
             ResolvedPatternForm::Wildcard => false,
@@ -342,7 +342,7 @@ impl<'t> Cells<'t> {
     // Whether there is an instance that is a list.
     #[cycle(has_instance)]
     fn has_list<P: VariableCells>(&self, variables: &P, pattern: &ResolvedPattern) -> bool
-        ensures { result ≡ is_some (option_and_then elements (build_pattern pattern.now (P.variables variables.now) self.now.bindings)) }
+        ensures { result ≡ is_some (option_and_then elements (build_pattern pattern.now (P.cells variables.now) self.now.bindings)) }
     {
         match pattern.form() {
             ResolvedPatternForm::Wildcard => false,
@@ -367,7 +367,7 @@ impl<'t> Cells<'t> {
     // Whether each of these patterns has an instance.
     #[cycle(has_instance)]
     fn have_instances<P: VariableCells>(&self, variables: &P, parts: &[ResolvedPattern]) -> bool
-        ensures { result ≡ is_some (build_patterns (resolved_patterns_of parts.now) (P.variables variables.now) self.now.bindings) }
+        ensures { result ≡ is_some (build_patterns (resolved_patterns_of parts.now) (P.cells variables.now) self.now.bindings) }
     {
         for part in parts {
             if !self.has_instance(variables, part) {
@@ -384,7 +384,7 @@ impl<'t> Cells<'t> {
         variables: &P,
         variable: usize,
     ) -> Result<Option<Value<'t>>, NoMemory>
-        ensures { IfOk result (λ value. value ≡ bound_to (P.variables variables.now) variable self.now.bindings) }
+        ensures { IfOk result (λ value. value ≡ bound_to (P.cells variables.now) variable self.now.bindings) }
     {
         match self.bound(variables, variable) {
             None => Ok(None),
@@ -394,7 +394,7 @@ impl<'t> Cells<'t> {
 
     // What a variable is bound to.
     fn bound<P: VariableCells>(&self, variables: &P, variable: usize) -> Option<&Value<'t>>
-        ensures { option_copied result ≡ bound_to (P.variables variables.now) variable self.now.bindings }
+        ensures { option_copied result ≡ bound_to (P.cells variables.now) variable self.now.bindings }
     {
         match variables.cell(variable) {
             None => None,

@@ -33,7 +33,7 @@ impl<'t> Cells<'t> {
         pattern: &ResolvedPattern,
         value: &Value<'t>,
     ) -> Result<bool, NoMemory>
-        ensures ok { IfOk result (λ yes. match_pattern pattern.now value.now (P.variables variables.now) self.old.bindings
+        ensures ok { IfOk result (λ yes. match_pattern pattern.now value.now (P.cells variables.now) self.old.bindings
             ≡ cond yes (Some self.new.bindings) None) }
         ensures no { IfOk result (λ yes. yes ≡ false → self.new ≡ self.old) }
         ensures err { OnErr result (self.new ≡ self.old) }
@@ -63,7 +63,7 @@ impl<'t> Cells<'t> {
         pattern: &ResolvedPattern,
         value: &Value<'t>,
     ) -> Result<bool, NoMemory>
-        ensures ok { IfOk result (λ yes. match_pattern pattern.now value.now (P.variables variables.now) self.old.bindings
+        ensures ok { IfOk result (λ yes. match_pattern pattern.now value.now (P.cells variables.now) self.old.bindings
             ≡ cond yes (Some self.new.bindings) None) }
         ensures grows { Grows self.old self.new }
     {
@@ -117,7 +117,7 @@ impl<'t> Cells<'t> {
         pattern: &ResolvedPattern,
         value: &Value<'t>,
     ) -> Result<bool, NoMemory>
-        ensures ok { IfOk result (λ yes. match_pattern pattern.now (bare value.now) (P.variables variables.now) self.old.bindings
+        ensures ok { IfOk result (λ yes. match_pattern pattern.now (bare value.now) (P.cells variables.now) self.old.bindings
             ≡ cond yes (Some self.new.bindings) None) }
         ensures grows { Grows self.old self.new }
     {
@@ -139,7 +139,7 @@ impl<'t> Cells<'t> {
     ) -> Result<bool, NoMemory>
         requires { skipped ≤ length (children value.now) }
         ensures ok { IfOk result (λ yes. match_pattern pattern.now (list_term (drop skipped (children value.now)))
-            (P.variables variables.now) self.old.bindings ≡ cond yes (Some self.new.bindings) None) }
+            (P.cells variables.now) self.old.bindings ≡ cond yes (Some self.new.bindings) None) }
         ensures grows { Grows self.old self.new }
     {
         let rest = value.rest(alloc, skipped)?;
@@ -158,7 +158,7 @@ impl<'t> Cells<'t> {
         value: &Value<'t>,
     ) -> Result<bool, NoMemory>
         ensures ok { IfOk result (λ yes. match_patterns (resolved_patterns_of patterns.now) (take (length patterns.now) (children value.now))
-            (P.variables variables.now) self.old.bindings ≡ cond yes (Some self.new.bindings) None) }
+            (P.cells variables.now) self.old.bindings ≡ cond yes (Some self.new.bindings) None) }
         ensures grows { Grows self.old self.new }
     {
         for i in 0..patterns.len() {
@@ -181,7 +181,7 @@ impl<'t> Cells<'t> {
         pattern: &ResolvedPattern,
         value: Value<'t>,
     ) -> Result<bool, NoMemory>
-        ensures ok { IfOk result (λ yes. match_pattern pattern.now value.entry (P.variables variables.now) self.old.bindings
+        ensures ok { IfOk result (λ yes. match_pattern pattern.now value.entry (P.cells variables.now) self.old.bindings
             ≡ cond yes (Some self.new.bindings) None) }
         ensures grows { Grows self.old self.new }
     {
@@ -209,7 +209,7 @@ impl<'t> Cells<'t> {
         value: &Value<'t>,
     ) -> Result<bool, NoMemory>
         ensures ok { IfOk result (λ yes. match_patterns (resolved_patterns_of patterns.now) (annotations value.now)
-            (P.variables variables.now) self.old.bindings ≡ cond yes (Some self.new.bindings) None) }
+            (P.cells variables.now) self.old.bindings ≡ cond yes (Some self.new.bindings) None) }
         ensures grows { Grows self.old self.new }
     {
         if value.annotation_count() != patterns.len() {
@@ -231,7 +231,7 @@ impl<'t> Cells<'t> {
         variable: usize,
         value: &Value<'t>,
     ) -> Result<bool, NoMemory>
-        ensures ok { IfOk result (λ yes. bind (P.variables variables.now) variable value.now self.old.bindings
+        ensures ok { IfOk result (λ yes. bind (P.cells variables.now) variable value.now self.old.bindings
             ≡ cond yes (Some self.new.bindings) None) }
         ensures grows { Grows self.old self.new }
     {
@@ -251,7 +251,7 @@ impl<'t> Cells<'t> {
         variable: usize,
         value: Value<'t>,
     ) -> Result<bool, NoMemory>
-        ensures ok { IfOk result (λ yes. bind (P.variables variables.now) variable value.entry self.old.bindings
+        ensures ok { IfOk result (λ yes. bind (P.cells variables.now) variable value.entry self.old.bindings
             ≡ cond yes (Some self.new.bindings) None) }
         ensures grows { Grows self.old self.new }
     {
@@ -270,7 +270,7 @@ impl<'t> Cells<'t> {
     // Compares the cell of a variable with a term.
     #[inline(always)]
     fn look<P: VariableCells>(&self, variables: &P, variable: usize, value: &Value<'t>) -> Said
-        ensures { Says (P.variables variables.now) variable value.now self.now.bindings result }
+        ensures { Says (P.cells variables.now) variable value.now self.now.bindings result }
     {
         let Some(i) = variables.cell(variable) else {
             return Said::Same(false);

@@ -34,7 +34,7 @@ impl<'t> Cells<'t> {
         pattern: &ResolvedPattern,
         term: &'t Term,
     ) -> Result<bool, NoMemory>
-        ensures ok { IfOk result (λ yes. match_pattern pattern.now term.now (P.variables variables.now) self.old.bindings
+        ensures ok { IfOk result (λ yes. match_pattern pattern.now term.now (P.cells variables.now) self.old.bindings
             ≡ cond yes (Some self.new.bindings) None) }
         ensures no { IfOk result (λ yes. yes ≡ false → self.new ≡ self.old) }
         ensures err { OnErr result (self.new ≡ self.old) }
@@ -58,7 +58,7 @@ impl<'t> Cells<'t> {
     ) -> Result<BuiltTerm, NoMemory>
         requires { room ≤ MAX_ROOM }
         ensures same { self.new ≡ self.old }
-        ensures ok { IfOk result (λ built. BuildsTerm (build_pattern pattern.now (P.variables variables.now) self.old.bindings) room level built) }
+        ensures ok { IfOk result (λ built. BuildsTerm (build_pattern pattern.now (P.cells variables.now) self.old.bindings) room level built) }
     {
         match self.build(alloc, variables, pattern, level, room)? {
             Built::Value(value) => {

@@ -5,11 +5,11 @@ ghost use Rattle.std.specs.Prelude.{◌≡◌, ℕ, List, slice_get};
 /// The cells of the variables of a scope.
 pub trait VariableCells {
     // the cell of each variable, by its number
-    ghost variables: { Self → List ℕ };
+    ghost cells: { Self → List ℕ };
 
     /// The cell of a variable, if there is such a variable.
     fn cell(&self, variable: usize) -> Option<usize>
-        ensures { result ≡ slice_get (variables self.now) variable };
+        ensures { result ≡ slice_get (cells self.now) variable };
 }
 
 /// A scope as the list of the cells of its variables.
@@ -19,7 +19,7 @@ pub struct InSlice<'a> {
 }
 
 impl<'a> VariableCells for InSlice<'a> {
-    ghost variables = { λ s. s.cells.now };
+    ghost cells = { λ s. s.cells.now };
 
     fn cell(&self, variable: usize) -> Option<usize> {
         self.cells.get(variable).copied()

@@ -1,4 +1,4 @@
-use Rattle.strategy_check.proofs.PlaceLemmas.{resolved_patterns-next}
+use Rattle.strategy_check.proofs.ResolvedPatternLemmas.{resolved_patterns-next}
 use Rattle.strategy_check.proofs.resolved_patterns.+pattern.Goals as goal
 
 pub resolve_patterns-loop-pattern-preserved : goal.resolve_patterns-loop-pattern-preserved

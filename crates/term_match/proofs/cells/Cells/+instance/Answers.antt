@@ -10,5 +10,5 @@ instances-instance-requires g t c =
 
 pub in_front-all_in_front-requires : goal.in_front-all_in_front-requires
 in_front-all_in_front-requires g t c =
-    front_room c.args.parts.now (g.P.VariableCells.variables c.args.variables.now) c.args.self.now.bindings c.in_ok-instances.field-0
+    front_room c.args.parts.now (g.P.VariableCells.cells c.args.variables.now) c.args.self.now.bindings c.in_ok-instances.field-0
     (length (children c.in-Some.after)) c.in_ok-instances.ensures (search rules)

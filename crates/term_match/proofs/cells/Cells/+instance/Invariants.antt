@@ -31,5 +31,5 @@ decreases-instances g l = 4 * resolved_patterns_depth (resolved_patterns_of l.pa
 abbrev pub invariant-instances-loop-part : goal.invariant-instances-loop-part
 invariant-instances-loop-part g l =
     option_map (λ us. l.all.items ++ us)
-    (build_patterns (resolved_patterns_of (drop l.part-index l.parts)) (g.P.VariableCells.variables l.variables) l.self.bindings)
-    ≡ build_patterns (resolved_patterns_of l.parts) (g.P.VariableCells.variables l.variables) l.self.bindings
+    (build_patterns (resolved_patterns_of (drop l.part-index l.parts)) (g.P.VariableCells.cells l.variables) l.self.bindings)
+    ≡ build_patterns (resolved_patterns_of l.parts) (g.P.VariableCells.cells l.variables) l.self.bindings

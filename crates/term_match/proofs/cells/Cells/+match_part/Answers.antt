@@ -17,7 +17,7 @@ match_children-returns-in_default-clause-ok g t c =
     let ps = c.args.patterns.now in
     let us = children c.args.value.now in
     let within : c.loop-i.i < length ps = omega arith in
-    matched_missing ps (take (length ps) us) (g.P.VariableCells.variables c.args.variables.now) _ c.loop-i.i c.loop-i.self.bindings wildcard within
+    matched_missing ps (take (length ps) us) (g.P.VariableCells.cells c.args.variables.now) _ c.loop-i.i c.loop-i.self.bindings wildcard within
     (slice_get_front us (length ps) c.loop-i.i within ∙ sym c.in_ok-child.ensures ∙ c.in_default.is)
     c.loop-i.invariant.matched
 
@@ -31,7 +31,7 @@ match_children-returns-then-not-branch-clause-ok g t c =
     let ps = c.args.patterns.now in
     let us = children c.args.value.now in
     let within : c.loop-i.i < length ps = omega arith in
-    matched_no ps (take (length ps) us) (g.P.VariableCells.variables c.args.variables.now) _ c.loop-i.i c.loop-i.self.bindings _
+    matched_no ps (take (length ps) us) (g.P.VariableCells.cells c.args.variables.now) _ c.loop-i.i c.loop-i.self.bindings _
     c.index-patterns-i.result c.in-Some.child c.in_ok-match_child.field-0 within c.index-patterns-i.is
     (slice_get_front us (length ps) c.loop-i.i within ∙ sym c.in_ok-child.ensures ∙ c.in-Some.is)
     c.loop-i.invariant.matched c.in_ok-match_child.ensures.ok c.if-not-branch.true
@@ -42,7 +42,7 @@ match_children-loop-i-preserved g t c =
     let us = children c.args.value.now in
     let within : c.loop-i.i < length ps = omega arith in
     record {
-      matched = matched_next ps (take (length ps) us) (g.P.VariableCells.variables c.args.variables.now) _ c.loop-i.i c.loop-i.self.bindings _
+      matched = matched_next ps (take (length ps) us) (g.P.VariableCells.cells c.args.variables.now) _ c.loop-i.i c.loop-i.self.bindings _
           c.index-patterns-i.result c.in-Some.child c.in_ok-match_child.field-0 within c.index-patterns-i.is
           (slice_get_front us (length ps) c.loop-i.i within ∙ sym c.in_ok-child.ensures ∙ c.in-Some.is)
           c.loop-i.invariant.matched c.in_ok-match_child.ensures.ok c.if-not-branch.false;
@@ -51,7 +51,7 @@ match_children-loop-i-preserved g t c =
 
 pub match_annotations-returns-then-annotation_count-patterns-clause-ok : goal.match_annotations-returns-then-annotation_count-patterns-clause-ok
 match_annotations-returns-then-annotation_count-patterns-clause-ok g t c =
-    counts_differ c.args.patterns.now (annotations c.args.value.now) (g.P.VariableCells.variables c.args.variables.now) c.args.self.now.bindings
+    counts_differ c.args.patterns.now (annotations c.args.value.now) (g.P.VariableCells.cells c.args.variables.now) c.args.self.now.bindings
     (λ e. omega (arith, e, c.annotation_count.ensures, c.if-annotation_count-patterns.true))
 
 pub match_annotations-match_part-requires : goal.match_annotations-match_part-requires
@@ -61,7 +61,7 @@ match_annotations-match_part-requires g t c =
 
 pub match_part-returns-then-child_count-len-clause-ok : goal.match_part-returns-then-child_count-len-clause-ok
 match_part-returns-then-child_count-len-clause-ok g t c =
-    let E = g.P.VariableCells.variables c.args.variables.now in
+    let E = g.P.VariableCells.cells c.args.variables.now in
     let B = c.args.self.now.bindings in
     let v = c.args.value.now in
     let h = head_of c.in-Compound.head in
@@ -72,7 +72,7 @@ match_part-returns-then-child_count-len-clause-ok g t c =
 
 pub match_part-returns-then-child_count-len-2-clause-ok : goal.match_part-returns-then-child_count-len-2-clause-ok
 match_part-returns-then-child_count-len-2-clause-ok g t c =
-    let E = g.P.VariableCells.variables c.args.variables.now in
+    let E = g.P.VariableCells.cells c.args.variables.now in
     let B = c.args.self.now.bindings in
     let v = c.args.value.now in
     let p = c.in-WithTail.tail.value in
@@ -83,7 +83,7 @@ match_part-returns-then-child_count-len-2-clause-ok g t c =
 
 pub match_part-returns-then-not-branch-2-clause-ok : goal.match_part-returns-then-not-branch-2-clause-ok
 match_part-returns-then-not-branch-2-clause-ok g t c =
-    let E = g.P.VariableCells.variables c.args.variables.now in
+    let E = g.P.VariableCells.cells c.args.variables.now in
     let B = c.args.self.now.bindings in
     let v = c.args.value.now in
     let p = c.in-WithTail.tail.value in
@@ -96,7 +96,7 @@ match_part-returns-then-not-branch-2-clause-ok g t c =
 
 pub match_part-returns-else-child_count-len-clause-ok : goal.match_part-returns-else-child_count-len-clause-ok
 match_part-returns-else-child_count-len-clause-ok g t c =
-    let E = g.P.VariableCells.variables c.args.variables.now in
+    let E = g.P.VariableCells.cells c.args.variables.now in
     let B = c.args.self.now.bindings in
     let v = c.args.value.now in
     let h = head_of c.in-Compound.head in
@@ -111,7 +111,7 @@ match_part-returns-else-child_count-len-clause-ok g t c =
 
 pub match_part-returns-else-not-branch-2-clause-ok : goal.match_part-returns-else-not-branch-2-clause-ok
 match_part-returns-else-not-branch-2-clause-ok g t c =
-    let E = g.P.VariableCells.variables c.args.variables.now in
+    let E = g.P.VariableCells.cells c.args.variables.now in
     let B = c.args.self.now.bindings in
     let v = c.args.value.now in
     let p = c.in-WithTail.tail.value in
@@ -160,13 +160,13 @@ pub match_children-returns-clause-ok : goal.match_children-returns-clause-ok
 match_children-returns-clause-ok g t c =
     let ps = c.args.patterns.now in
     let us = children c.args.value.now in
-    matched_all ps (take (length ps) us) (g.P.VariableCells.variables c.args.variables.now) _ c.loop-i.i c.loop-i.self.bindings c.loop-i-test.false
+    matched_all ps (take (length ps) us) (g.P.VariableCells.cells c.args.variables.now) _ c.loop-i.i c.loop-i.self.bindings c.loop-i-test.false
     (omega (arith, c.loop-i-test.false, length-take (length ps) us)) c.loop-i.invariant.matched
 
 pub match_annotations-returns-then-not-branch-clause-ok : goal.match_annotations-returns-then-not-branch-clause-ok
 match_annotations-returns-then-not-branch-clause-ok g t c =
     let ps = c.args.patterns.now in
-    let E = g.P.VariableCells.variables c.args.variables.now in
+    let E = g.P.VariableCells.cells c.args.variables.now in
     let inside : c.loop-i.i < length c.in_ok-annotations.annotations.items =
     omega (arith, ap length c.in_ok-annotations.ensures, c.annotation_count.ensures, c.if-annotation_count-patterns.false, c.loop-i-test.true) in
     let there : slice_get c.in_ok-annotations.annotations.items c.loop-i.i ≡ Some c.index.result.now =
@@ -183,7 +183,7 @@ match_annotations-loop-i-preserved g t c =
     let there : slice_get c.in_ok-annotations.annotations.items c.loop-i.i ≡ Some c.index.result.now =
     slice_get-get_or c.in_ok-annotations.annotations.items c.loop-i.i c.index.result.now inside ∙ ap Some (sym c.index.ensures) in
     record {
-      matched = matched_next c.args.patterns.now c.in_ok-annotations.annotations.items (g.P.VariableCells.variables c.args.variables.now) _ c.loop-i.i
+      matched = matched_next c.args.patterns.now c.in_ok-annotations.annotations.items (g.P.VariableCells.cells c.args.variables.now) _ c.loop-i.i
           c.loop-i.self.bindings _ c.index-patterns-i.result c.index.result.now c.in_ok-match_part.field-0 c.loop-i-test.true
           c.index-patterns-i.is there c.loop-i.invariant.matched c.in_ok-match_part.ensures.ok c.if-not-branch.false;
       grows = grows_then c.args.self.now c.loop-i.self c.match_part.new.self c.loop-i.invariant.grows c.in_ok-match_part.ensures.grows;
@@ -192,7 +192,7 @@ match_annotations-loop-i-preserved g t c =
 pub match_annotations-returns-clause-ok : goal.match_annotations-returns-clause-ok
 match_annotations-returns-clause-ok g t c =
     let ps = c.args.patterns.now in
-    let E = g.P.VariableCells.variables c.args.variables.now in
+    let E = g.P.VariableCells.cells c.args.variables.now in
     matched_all ps c.in_ok-annotations.annotations.items E _ c.loop-i.i c.loop-i.self.bindings c.loop-i-test.false
     (omega (arith, ap length c.in_ok-annotations.ensures, c.annotation_count.ensures, c.if-annotation_count-patterns.false, c.loop-i-test.false))
     (c.loop-i.invariant.matched ∙ ap (λ (ts : List Tree). match_patterns (resolved_patterns_of ps) ts E c.args.self.now.bindings) c.in_ok-annotations.ensures)
