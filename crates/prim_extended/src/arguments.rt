@@ -1,4 +1,4 @@
-//! The values of arguments that the standard primitives don't have.
+//! Values of arguments beside those of `prim_core`. Annotations are ignored.
 
 ghost use Rattle.std.specs.Prelude.{◌≡◌, length};
 ghost use Rattle.std.specs.Option.{option_copied};

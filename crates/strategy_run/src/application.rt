@@ -1,6 +1,6 @@
 //! Applying strategies in the tree of a slot.
 
-ghost use Rattle.std.specs.Prelude.{◌≡◌, ◌≤◌, ◌+◌, ℕ, Some, length, Decides, IfOk, IfSome, OnErr};
+ghost use Rattle.std.specs.Prelude.{◌≡◌, ◌≤◌, ◌+◌, Some, length, Decides, IfOk, IfSome, OnErr};
 ghost use Rattle.term_core.specs.Tree.{Tree};
 ghost use Rattle.term_core.specs.Size.{height};
 ghost use Rattle.term_core.specs.declared.TheConstants.{MAX_ROOM};

@@ -13,7 +13,7 @@ pub enum Ended<R> {
     Big,
 }
 
-/// Goes on with what a run succeeded with. Another end is that of the whole.
+/// Goes on with the result of a run that succeeded; any other end is returned.
 macro_rules! when_done {
     ($ended:expr, $done:pat => $then:expr) => {
         match $ended {

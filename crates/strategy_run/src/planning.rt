@@ -28,8 +28,9 @@ pub struct Planned {
 }
 
 /// Runs a strategy on the term, which has so many levels above it, in at most `steps` steps, with
-/// these definitions, primitives and room for the terms that it builds. The level and the height of
-/// the term come to at most 1,000 together.
+/// these definitions and primitives. The host's `room` is the greatest size of a term that is
+/// built, at most 1,000,000,000. The level and the height of the term come to at most 1,000
+/// together.
 ///
 /// Returns `Done` with what that would replace in the term, as a patch of it, `Failed` if the
 /// strategy fails, `Spent` if it needs more steps, or `Big` if it makes a term that doesn't fit.

@@ -6,7 +6,7 @@ ghost use Rattle.prim_core.specs.Values.{integer_value, string_value, one, two};
 
 use term_core::{Kind, Term};
 
-/// The integer that the term is.
+/// The integer, if the term is one.
 pub fn integer(term: &Term) -> Option<i64>
     ensures { result ≡ integer_value term.now }
 {
@@ -16,7 +16,7 @@ pub fn integer(term: &Term) -> Option<i64>
     }
 }
 
-/// The bytes of the string that the term is.
+/// The bytes, if the term is a string.
 pub fn string(term: &Term) -> Option<&[u8]>
     ensures { option_copied result ≡ string_value term.now }
 {
