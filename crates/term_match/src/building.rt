@@ -3,7 +3,7 @@
 //! Bounds of sizes are stored with the terms in the cells. Only if they don't show that the
 //! instance fits are its variables measured, small terms first, and the results stay in the cells.
 
-ghost use Rattle.std.specs.Prelude.{◌≡◌, ◌+◌, ◌<◌, ◌≤◌, ◌^◌, ℕ, List, [], ◌∷◌, ◌++◌, length, IfOk, IfSome, Ok, Some, is_some, option_map, option_and_then};
+ghost use Rattle.std.specs.Prelude.{◌≡◌, ◌+◌, ◌<◌, ◌≤◌, ◌^◌, ℕ, List, [], ◌∷◌, ◌++◌, length, IfOk, IfSome, Ok, Some, option_map, option_and_then};
 ghost use Rattle.std.specs.Option.{option_copied};
 ghost use Rattle.std.specs.declared.option.Option.{Option};
 ghost use Rattle.term_core.specs.declared.TheConstants.{MAX_ROOM};
@@ -319,64 +319,6 @@ impl<'t> Cells<'t> {
         Ok(Some(all))
     }
 
-    // Whether there is an instance.
-    #[cycle(has_instance)]
-    fn has_instance<P: VariableCells>(&self, variables: &P, pattern: &ResolvedPattern) -> bool
-        ensures { result ≡ is_some (build_pattern pattern.now (P.cells variables.now) self.now.bindings) }
-    {
-        match pattern.form() {
-            ResolvedPatternForm::Wildcard => false,
-            ResolvedPatternForm::Variable(x) => self.bound(variables, *x).is_some(),
-            ResolvedPatternForm::At(_, _) => false,
-            ResolvedPatternForm::Integer(_) => true,
-            ResolvedPatternForm::Compound(_, parts) => self.have_instances(variables, parts),
-            ResolvedPatternForm::WithTail(parts, tail) => {
-                self.have_instances(variables, parts) && self.has_list(variables, tail)
-            }
-            ResolvedPatternForm::Annotated(inner, annotations) => {
-                self.has_instance(variables, inner) && self.have_instances(variables, annotations)
-            }
-        }
-    }
-
-    // Whether there is an instance that is a list.
-    #[cycle(has_instance)]
-    fn has_list<P: VariableCells>(&self, variables: &P, pattern: &ResolvedPattern) -> bool
-        ensures { result ≡ is_some (option_and_then elements (build_pattern pattern.now (P.cells variables.now) self.now.bindings)) }
-    {
-        match pattern.form() {
-            ResolvedPatternForm::Wildcard => false,
-            ResolvedPatternForm::Variable(x) => match self.bound(variables, *x) {
-                None => false,
-                Some(value) => is_list(value),
-            },
-            ResolvedPatternForm::At(_, _) => false,
-            ResolvedPatternForm::Integer(_) => false,
-            ResolvedPatternForm::Compound(head, parts) => {
-                matches!(head, Head::List) && self.have_instances(variables, parts)
-            }
-            ResolvedPatternForm::WithTail(parts, tail) => {
-                self.have_instances(variables, parts) && self.has_list(variables, tail)
-            }
-            ResolvedPatternForm::Annotated(inner, annotations) => {
-                self.has_list(variables, inner) && self.have_instances(variables, annotations)
-            }
-        }
-    }
-
-    // Whether each of these patterns has an instance.
-    #[cycle(has_instance)]
-    fn have_instances<P: VariableCells>(&self, variables: &P, parts: &[ResolvedPattern]) -> bool
-        ensures { result ≡ is_some (build_patterns (resolved_patterns_of parts.now) (P.cells variables.now) self.now.bindings) }
-    {
-        for part in parts {
-            if !self.has_instance(variables, part) {
-                return false;
-            }
-        }
-        true
-    }
-
     // Another holder of what a variable is bound to.
     #[inline(always)]
     fn held<P: VariableCells>(
@@ -393,62 +335,16 @@ impl<'t> Cells<'t> {
     }
 
     // What a variable is bound to.
-    fn bound<P: VariableCells>(&self, variables: &P, variable: usize) -> Option<&Value<'t>>
+    pub(crate) fn bound<P: VariableCells>(
+        &self,
+        variables: &P,
+        variable: usize,
+    ) -> Option<&Value<'t>>
         ensures { option_copied result ≡ bound_to (P.cells variables.now) variable self.now.bindings }
     {
         match variables.cell(variable) {
             None => None,
             Some(i) => self.get(i),
-        }
-    }
-
-    // Measures the terms of the pattern's variables that have at most `limit` nodes.
-    #[cycle(measure)]
-    fn measure<P: VariableCells>(&mut self, variables: &P, pattern: &ResolvedPattern, limit: u64)
-        ensures { self.new ≡ self.old }
-    {
-        match pattern.form() {
-            ResolvedPatternForm::Wildcard => {}
-            ResolvedPatternForm::Variable(x) => self.measure_variable(variables, *x, limit),
-            ResolvedPatternForm::At(_, _) => {}
-            ResolvedPatternForm::Integer(_) => {}
-            ResolvedPatternForm::Compound(_, parts) => self.measure_all(variables, parts, limit),
-            ResolvedPatternForm::WithTail(parts, tail) => {
-                self.measure_all(variables, parts, limit);
-                self.measure(variables, tail, limit);
-            }
-            ResolvedPatternForm::Annotated(inner, annotations) => {
-                self.measure(variables, inner, limit);
-                self.measure_all(variables, annotations, limit);
-            }
-        }
-    }
-
-    #[cycle(measure)]
-    fn measure_all<P: VariableCells>(
-        &mut self,
-        variables: &P,
-        parts: &[ResolvedPattern],
-        limit: u64,
-    )
-        ensures { self.new ≡ self.old }
-    {
-        for part in parts {
-            self.measure(variables, part, limit);
-        }
-    }
-
-    fn measure_variable<P: VariableCells>(&mut self, variables: &P, variable: usize, limit: u64)
-        ensures { self.new ≡ self.old }
-    {
-        let Some(i) = variables.cell(variable) else {
-            return;
-        };
-        if i >= self.cells.len() {
-            return;
-        }
-        if let Some(value) = &mut self.cells[i] {
-            let _small = value.measure(limit);
         }
     }
 }

@@ -8,6 +8,7 @@
 mod building;
 mod cells;
 mod matching;
+mod preparing;
 mod terms;
 mod variables;
 
