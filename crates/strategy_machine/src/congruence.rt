@@ -19,6 +19,7 @@ use term_core::{Kind, NoMemory};
 use term_values::Part;
 
 /// Whether the part has this head and `count` children.
+#[inline(always)]
 pub(crate) fn is_over(head: &Head, count: usize, part: &Part<'_>) -> bool
     ensures { result ≡ is_headed_over (head_of head.now) count (standing_tree part.now) }
 {
@@ -26,6 +27,7 @@ pub(crate) fn is_over(head: &Head, count: usize, part: &Part<'_>) -> bool
 }
 
 /// Whether the part is a list of at least `count` elements.
+#[inline(always)]
 pub(crate) fn is_list_from(count: usize, part: &Part<'_>) -> bool
     ensures { result ≡ has_elements count (elements (standing_tree part.now)) }
 {

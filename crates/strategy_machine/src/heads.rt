@@ -118,6 +118,7 @@ pub(crate) fn left_by_failure<'t>(
 }
 
 /// Whether the root's kind shows that the pattern can't match.
+#[inline(always)]
 pub(crate) fn misses(pattern: &ResolvedPattern, part: &Part<'_>) -> bool
     ensures { OnTrue result (Misses pattern.now (standing_tree part.now)) }
 {

@@ -258,6 +258,7 @@ impl<'t> Scopes<'t> {
     }
 
     /// The cell of a scope's variable.
+    #[inline(always)]
     pub fn cell(&self, scope: usize, variable: usize) -> Option<usize>
         ensures { result ≡ slice_get (cells_in (scope_at (scopes self.now) scope)) variable }
     {
@@ -276,6 +277,7 @@ impl<'t> Scopes<'t> {
     }
 
     /// What a strategy name stands for in a scope.
+    #[inline(always)]
     pub fn named(&self, scope: usize, x: usize) -> Option<Closure<'t>>
         ensures { MatchOption result (stands_for (scope_at (scopes self.now) scope) x ≡ None)
             (λ known. NameStands (scopes self.now) scope x known) }

@@ -18,6 +18,7 @@ pub enum Head {
 
 impl Head {
     /// Whether a term of this kind has this head. An integer has none.
+    #[inline(always)]
     pub fn is_head_of(&self, kind: Kind<'_>) -> bool
         ensures { IsTrue result ↔ (head_at kind.entry ≡ Some (head_of self.now)) }
     {

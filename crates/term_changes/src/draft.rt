@@ -58,6 +58,7 @@ impl Draft {
     }
 
     /// Adds a place before the others, and the term for it.
+    #[inline(always)]
     pub fn term(&mut self, term: Term) -> Result<(), NoMemory>
         ensures { IfOk result (λ _. self.new ≡ (0, replaced term) ∷ self.old) }
     {

@@ -66,6 +66,7 @@ impl PartialEq for Name {
 
     ghost laws = { Prim.search (comparing, rules) };
 
+    #[inline(always)]
     fn eq(&self, other: &Name) -> bool {
         self.is_quoted() == other.is_quoted() && self.bytes() == other.bytes()
     }
@@ -234,6 +235,7 @@ impl Name {
 
     /// Whether the two names have the same bytes and both are words or both are quoted. So the word
     /// `f` and the quoted name `"f"` aren't equal.
+    #[inline(always)]
     pub fn equals(&self, other: &Name) -> bool
         ensures { IsTrue result ↔ (self.now ≡ other.now) }
     {
@@ -241,6 +243,7 @@ impl Name {
     }
 
     /// An equal name. It takes no memory: a short name is copied in place, and a long one shared.
+    #[inline(always)]
     pub fn try_clone(&self) -> Result<Name, NoMemory>
         ensures { IfOk result (λ name. name ≡ self.now) }
     {

@@ -335,6 +335,7 @@ impl<'t> Cells<'t> {
     }
 
     // What a variable is bound to.
+    #[inline(always)]
     pub(crate) fn bound<P: VariableCells>(
         &self,
         variables: &P,

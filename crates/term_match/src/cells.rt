@@ -58,6 +58,7 @@ impl<'t> Cells<'t> {
     }
 
     /// The content of cell `i`, if the cell exists and isn't empty.
+    #[inline(always)]
     pub fn get(&self, i: usize) -> Option<&Value<'t>>
         ensures { option_copied result ≡ option_and_then (λ o. o) (slice_get self.now.bindings i) }
     {
@@ -116,6 +117,7 @@ impl<'t> Cells<'t> {
     }
 
     /// Keeps only the first `count` cells.
+    #[inline(always)]
     pub fn close_to(&mut self, count: usize)
         requires { count ≤ length self.old.bindings }
         ensures cells { self.new.bindings ≡ take count self.old.bindings }
@@ -127,6 +129,7 @@ impl<'t> Cells<'t> {
     }
 
     /// Rolls back to a mark: cells opened since are removed, and those filled since are emptied.
+    #[inline(always)]
     pub fn back_to(&mut self, mark: Mark)
         requires { Before mark (mark_of self.old) }
         ensures cells { self.new.bindings ≡ kept self.old mark }

@@ -26,6 +26,7 @@ enum Said {
 impl<'t> Cells<'t> {
     /// Whether the pattern matches the value. If it does, unbound variables are bound; if it
     /// doesn't, or memory can't grow, the cells are unchanged. Terms are bound without a copy.
+    #[inline(always)]
     pub fn matches<P: VariableCells>(
         &mut self,
         alloc: Global,
@@ -150,6 +151,7 @@ impl<'t> Cells<'t> {
 
     // Matches the first children, each with a pattern.
     #[cycle(match_part)]
+    #[inline(always)]
     fn match_children<P: VariableCells>(
         &mut self,
         alloc: Global,
@@ -174,6 +176,7 @@ impl<'t> Cells<'t> {
 
     // `match_part`, consuming the value.
     #[cycle(match_part)]
+    #[inline(always)]
     fn match_child<P: VariableCells>(
         &mut self,
         alloc: Global,
@@ -225,6 +228,7 @@ impl<'t> Cells<'t> {
     }
 
     // Binds a variable to the term, or compares the term it is bound to.
+    #[inline(always)]
     fn bind<P: VariableCells>(
         &mut self,
         variables: &P,

@@ -30,6 +30,7 @@ impl<'t> Value<'t> {
     }
 
     /// A node with two children. An integer has none.
+    #[inline(always)]
     pub fn two(
         alloc: Global,
         kind: Kind<'t>,
@@ -173,6 +174,7 @@ impl<'t> Value<'t> {
     }
 
     // A node whose kind is known to take children, or which has none.
+    #[inline(always)]
     fn made(alloc: Global, top: Top<'t>, items: Items<'t>) -> Result<Value<'t>, NoMemory>
         requires { top_shape top (items_list items) }
         ensures { IfOk result (λ value. value ≡ top_tree top.entry (items_list items.entry) []) }

@@ -17,6 +17,7 @@ const FEW: usize = 8;
 
 impl<'t> Value<'t> {
     /// Child `i`, counted from 0, or `None` if there is none. It takes no memory.
+    #[inline(always)]
     pub fn child(&self, i: usize) -> Result<Option<Value<'t>>, NoMemory>
         ensures { IfOk result (λ child. child ≡ slice_get (children self.now) i) }
     {

@@ -58,6 +58,7 @@ impl<'a, 't> Model for Elements<'a, 't> {
 }
 
 impl<'a, 't> Seen<'a, 't> {
+    #[inline(always)]
     pub(crate) fn kind(self) -> Kind<'a>
         ensures { seen_tree self.entry
             ≡ made_of result (children (seen_tree self.entry)) (annotations (seen_tree self.entry)) }

@@ -169,6 +169,7 @@ impl<'t> Value<'t> {
 }
 
 // The list of an element in front of those of a list without annotations.
+#[inline(always)]
 fn put_before<'t>(alloc: Global, first: Value<'t>, list: Value<'t>) -> Result<Value<'t>, NoMemory>
     requires list { list ≡ list_term (children list) }
     requires room { length (children list) + 1 < 2 ^ 64 }
@@ -291,6 +292,7 @@ fn measured_before<'t>(element: Value<'t>, list: &Value<'t>) -> Value<'t>
 }
 
 // The list of one element in front of another list.
+#[inline(always)]
 fn link<'t>(alloc: Global, first: Value<'t>, list: Value<'t>) -> Result<Value<'t>, NoMemory>
     requires list { list ≡ list_term (children list) }
     requires room { length (children list) + 1 < 2 ^ 64 }

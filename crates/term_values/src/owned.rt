@@ -78,6 +78,7 @@ fn own_top<'t>(alloc: Global, kind: Kind<'_>) -> Result<Top<'t>, NoMemory>
 }
 
 #[cycle(owned)]
+#[inline(always)]
 fn owned(alloc: Global, seen: Seen<'_, '_>) -> Result<Term, NoMemory>
     ensures { IfOk result (λ term. term ≡ seen_tree seen.entry) }
 {

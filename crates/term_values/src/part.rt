@@ -123,6 +123,7 @@ impl<'t> Part<'t> {
     }
 
     /// Another holder of the same part. It takes no memory.
+    #[inline(always)]
     pub fn try_clone(&self) -> Result<Part<'t>, NoMemory>
         ensures { IfOk result (λ part. part ≡ self.now) }
     {
@@ -138,6 +139,7 @@ impl<'t> Part<'t> {
     }
 
     /// The root of the tree.
+    #[inline(always)]
     pub fn kind(&self) -> Kind<'_>
         ensures { standing_tree self.now
             ≡ made_of result (children (standing_tree self.now)) (annotations (standing_tree self.now)) }
@@ -200,6 +202,7 @@ impl<'t> Part<'t> {
     }
 
     /// The tree. Nothing is copied, and it takes no memory.
+    #[inline(always)]
     pub fn value(&self) -> Result<Value<'t>, NoMemory>
         ensures { IfOk result (λ value. value ≡ standing_tree self.now) }
     {

@@ -27,6 +27,7 @@ impl<'t> Part<'t> {
 
     // Adds what was replaced to the draft: one item, or none where nothing was. Returns how many.
     #[cycle(draft)]
+    #[inline(always)]
     fn draft(&self, alloc: Global, draft: &mut Draft) -> Result<usize, NoMemory>
         ensures draft { IfOk result (λ _. draft.new ≡ item_of (standing_change self.now) ++ draft.old) }
         ensures count { IfOk result (λ items. items ≡ length (item_of (standing_change self.now))) }

@@ -66,6 +66,7 @@ impl<'t> Part<'t> {
     }
 
     /// This part's root over these parts.
+    #[inline(always)]
     pub fn with_parts(&self, alloc: Global, parts: Vec<Part<'t>>) -> Result<Part<'t>, NoMemory>
         requires { CanHold self.now parts.items }
         ensures { IfOk result (λ whole. whole ≡ with_standing self.now parts.entry.items) }
@@ -174,6 +175,7 @@ impl<'t> Changed<'t> {
 }
 
 // A subterm with these parts in the places of its children.
+#[inline(always)]
 fn changed_part<'t>(alloc: Global, of: &'t Term, parts: Vec<Part<'t>>) -> Result<Part<'t>, NoMemory>
     requires { SuitAll (children of.now) parts.items }
     ensures { IfOk result (λ part. part ≡ with_standing (unchanged of.now) parts.entry.items) }
