@@ -20,12 +20,17 @@ impl<'t> Value<'t> {
         ensures { IfOk result (λ term. term ≡ self.now) }
     {
         match &self.form {
-            Form::Leaf(kind) => node(alloc, *kind, Vec::new(alloc)),
+            Form::Leaf(kind) => leaf(alloc, *kind),
+            // results of calls are moved, so that a leaf needn't lie in memory, as in `Part::child`
             Form::Original(term) => {
                 let term: &Term = *term;
-                term.try_clone()
+                let copy = term.try_clone()?;
+                Ok(copy)
             }
-            _ => owned(alloc, Seen::Value(self)),
+            _ => {
+                let copy = owned(alloc, Seen::Value(self))?;
+                Ok(copy)
+            }
         }
     }
 }
@@ -117,7 +122,7 @@ fn plain(alloc: Global, seen: Seen<'_, '_>) -> Result<Option<Term>, NoMemory>
     match seen {
         Seen::Term(term) => Ok(Some(term.try_clone()?)),
         Seen::Value(value) => match &value.form {
-            Form::Leaf(kind) => Ok(Some(node(alloc, *kind, Vec::new(alloc))?)),
+            Form::Leaf(kind) => Ok(Some(leaf(alloc, *kind)?)),
             Form::Original(term) => {
                 let term: &Term = *term;
                 Ok(Some(term.try_clone()?))
@@ -125,6 +130,22 @@ fn plain(alloc: Global, seen: Seen<'_, '_>) -> Result<Option<Term>, NoMemory>
             _ => Ok(None),
         },
         Seen::Part(_) => Ok(None),
+    }
+}
+
+// An owned term of this kind without children and annotations.
+#[inline(always)]
+fn leaf(alloc: Global, kind: Kind<'_>) -> Result<Term, NoMemory>
+    ensures { IfOk result (λ term. term ≡ made_of kind.entry [] []) }
+{
+    match kind {
+        Kind::Integer(value) => Ok(Term::integer(alloc, value)),
+        Kind::Application(name) => {
+            let name = name.try_clone()?;
+            Ok(Term::application(alloc, name, Vec::new(alloc)))
+        }
+        Kind::List => Ok(Term::list(alloc, Vec::new(alloc))),
+        Kind::Tuple => Ok(Term::tuple(alloc, Vec::new(alloc))),
     }
 }
 

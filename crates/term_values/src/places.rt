@@ -26,7 +26,11 @@ impl<'t> Part<'t> {
                 let term: &'t Term = *term;
                 Ok(same_at(term.children(), i, child_bounds(term, *bounds)))
             }
-            _ => self.other_child(i),
+            _ => {
+                // the result of a call lies in memory: it is moved, so that the child above needn't
+                let child = self.other_child(i)?;
+                Ok(child)
+            }
         }
     }
 
