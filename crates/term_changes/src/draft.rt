@@ -57,6 +57,15 @@ impl Draft {
         }
     }
 
+    /// Makes room for so many more places.
+    pub fn reserve(&mut self, places: usize) -> Result<(), NoMemory>
+        ensures { self.new ≡ self.old }
+    {
+        self.marks.reserve(places)?;
+        self.terms.reserve(places)?;
+        Ok(())
+    }
+
     /// Adds a place before the others, and the term for it.
     #[inline(always)]
     pub fn term(&mut self, term: Term) -> Result<(), NoMemory>

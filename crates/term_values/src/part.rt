@@ -138,6 +138,11 @@ impl<'t> Part<'t> {
         }
     }
 
+    /// Whether it is the subterm itself.
+    pub(crate) fn is_same(&self) -> bool {
+        matches!(self.form, PartForm::Same(_, _))
+    }
+
     /// The root of the tree.
     #[inline(always)]
     pub fn kind(&self) -> Kind<'_>

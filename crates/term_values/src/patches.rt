@@ -13,6 +13,9 @@ use std::alloc::Global;
 use term_changes::{Draft, Patch};
 use term_core::NoMemory;
 
+/// For the places of so many parts there is room soon enough.
+const FEW: usize = 8;
+
 impl<'t> Part<'t> {
     /// The outermost places that were replaced, each with an owned term. The places exist in each
     /// subterm whose place this part can take.
@@ -51,13 +54,32 @@ impl<'t> Changed<'t> {
         ensures count { IfOk result (λ items. items ≡ length (item_of (inside self.now.changes))) }
         ensures there { IfOk result (λ _. HaveAllPlaces (children self.now.before) self.now.changes) }
     {
-        let kids = draft_children(alloc, self.parts.as_slice(), draft)?;
+        let parts = self.parts.as_slice();
+        make_room(parts, draft)?;
+        let kids = draft_children(alloc, parts, draft)?;
         if kids > 0 {
             draft.node(kids)?;
             return Ok(1);
         }
         Ok(0)
     }
+}
+
+// Makes room in the draft for the places of many parts.
+#[inline(always)]
+fn make_room(parts: &[Part<'_>], draft: &mut Draft) -> Result<(), NoMemory>
+    ensures { draft.new ≡ draft.old }
+{
+    if parts.len() <= FEW {
+        return Ok(());
+    }
+    draft.reserve(changed_count(parts))
+}
+
+// How many of the parts have places.
+#[inline(never)]
+fn changed_count(parts: &[Part<'_>]) -> usize {
+    parts.iter().filter(|part| !part.is_same()).count()
 }
 
 // Adds what was replaced in the children, in whose places these parts are, from the last to the

@@ -8,7 +8,7 @@ use Rattle.term_values.proofs.+draft.Goals as goal
 pub part::Changed::draft-draft_children-requires : goal.part::Changed::draft-draft_children-requires
 part::Changed::draft-draft_children-requires t c =
     let high = altered_heights c.self.inside.of.now c.self.inside.parts.items c.args.self.now c.self.view_is c.self.invariant in
-    let same = ap (λ ps. heights (of_list (map standing_tree ps))) c.as_slice.ensures.value in
+    let same = ap (λ ps. heights (of_list (map standing_tree ps))) c.as_slice-parts.ensures.value in
     (omega (arith, high, same, c.decreases), tt)
 
 pub patches::draft_children-draft-requires : goal.patches::draft_children-draft-requires
