@@ -1,15 +1,14 @@
 -- Trees that agree along a path, and what differs once something is changed at its end.
-use Rattle.std.proofs.Common.{◌≡◌, ℕ, zero, suc, ◌+◌, ◌<◌, ◌≤◌, ◌⊎◌, inl, inr, Bool, true, ◌&&◌, List, [], ◌∷◌, ◌++◌, length, slice_get, Some, None, set, ◌-◌, refl, sym, ap, ◌∙◌, subst, arith, append_assoc, append-nil}
+use Rattle.std.proofs.Common.{◌≡◌, ℕ, zero, suc, ◌+◌, ◌<◌, ◌⊎◌, inl, inr, List, [], ◌∷◌, ◌++◌, length, slice_get, Some, None, set, ◌-◌, refl, sym, ap, ◌∙◌, subst, arith, append_assoc, append-nil}
 use Rattle.std.specs.Prelude.{option_and_then}
 use Rattle.std.proofs.lemmas.List.{length-append, length-set, set-append_right}
-use Rattle.term_core.specs.Tree.{Head, Tree, Trees, integer, branch, none, more, to_list, of_list, children, annotations, with_annotations, with_child, with_children}
+use Rattle.term_core.specs.Tree.{Head, Tree, Trees, integer, branch, to_list, of_list, children}
 use Rattle.term_core.proofs.TreeLemmas.{to_list-of_list, of_list-to_list}
-use Rattle.term_paths.specs.Paths.{at, set_at, set_annotations_at}
-use Rattle.term_paths.proofs.PathLemmas.{changed_at, changed_at-child, changed_at-no_child, at-child, set_at-changed, set_annotations_at-changed}
+use Rattle.term_paths.specs.Paths.{at}
+use Rattle.term_paths.proofs.PathLemmas.{changed_at, changed_at-child, changed_at-no_child, at-child}
 use Rattle.strategy_meaning.proofs.SameLemmas.{head-self}
-use Rattle.session_history.specs.Differences.{Difference, as_many, annotated, differences, differences_from}
-use Rattle.session_history.specs.inside.Lined.{same_root}
-use Rattle.session_history.proofs.DifferenceLemmas.{trees_same, as_many_by, differences_same, from_same, differ_below, kid_there, kid_set}
+use Rattle.session_history.specs.Differences.{Difference, differences, differences_from}
+use Rattle.session_history.proofs.DifferenceLemmas.{trees_same, as_many_by, differences_same, kid_there, kid_set}
 
 -- ---- trees that agree along a path
 

@@ -1,11 +1,11 @@
 -- What was there, put back at the places that differ, gives the tree from before.
-use Rattle.std.proofs.Common.{◌≡◌, ℕ, suc, ◌+◌, Bool, true, false, ◌&&◌, List, [], ◌∷◌, ◌++◌, length, Some, refl, sym, ap, ◌∙◌, subst, arith, append_assoc, append-nil, if◌then◌else◌}
+use Rattle.std.proofs.Common.{◌≡◌, ℕ, ◌+◌, true, false, ◌&&◌, List, [], ◌∷◌, ◌++◌, length, Some, refl, sym, ap, ◌∙◌, append_assoc, append-nil, if◌then◌else◌}
 use Rattle.std.specs.Prelude.{option_and_then}
 use Rattle.std.specs.Ordering.{int_eq}
 use Rattle.std.proofs.lemmas.List.{length-append}
 use Rattle.std.proofs.lemmas.Bool.Decides.{Decides-int_eq}
 use Rattle.term_core.specs.Tree.{Head, Tree, Trees, integer, branch, none, more, to_list, of_list, with_annotations}
-use Rattle.term_core.proofs.TreeLemmas.{to_list-of_list, of_list-to_list}
+use Rattle.term_core.proofs.TreeLemmas.{of_list-to_list}
 use Rattle.term_paths.specs.Paths.{at, set_at, set_annotations_at}
 use Rattle.term_paths.proofs.PathLemmas.{at-append, at-child, set_at-child}
 use Rattle.term_paths.proofs.LawLemmas.{putting_back, set_is_there, last_set_stays, set_after, set_annotations_after}

@@ -1,8 +1,8 @@
 -- The lines of a change in one slot.
-use Rattle.std.proofs.Common.{◌≡◌, ℕ, zero, suc, ◌+◌, Bool, true, false, cond, ◌||◌, List, [], ◌∷◌, ◌++◌, map, slice_get, Some, None, option_map, refl, sym, ap, subst, ◌∙◌, append-nil, arith, nat_eq, if◌then◌else◌}
+use Rattle.std.proofs.Common.{◌≡◌, ℕ, zero, suc, ◌+◌, true, false, cond, ◌||◌, List, [], ◌∷◌, ◌++◌, map, slice_get, Some, None, option_map, refl, sym, ap, ◌∙◌, append-nil, arith, nat_eq, if◌then◌else◌}
 use Rattle.std.specs.Prelude.{option_and_then}
 use Rattle.std.specs.declared.option.Option.{Option}
-use Rattle.std.specs.List.{flat_map, AllByRecursion}
+use Rattle.std.specs.List.{AllByRecursion}
 use Rattle.std.specs.List.Sorted.{IsStrictlySortedBy}
 use Rattle.std.specs.Ordering.{nat_cmp, eq_by_cmp}
 use Rattle.std.specs.Cmp.Lexicographic.{slice_cmp, pointwise, nat_list_cmp_total, bytes_decides}
@@ -13,11 +13,11 @@ use Rattle.std.proofs.lemmas.Map.Text.{is_eq-slice_cmp}
 use Rattle.std.proofs.lemmas.Map.Keys.{IsDistinct-head, IsDistinct-tail}
 use Rattle.std.proofs.lemmas.Cmp.{nat_list_eq_equiv}
 use Rattle.term_core.specs.Tree.{Tree}
-use Rattle.term_changes.specs.Contents.{Contents, Named, with_tree, without_tree, with_module, without_module}
+use Rattle.term_changes.specs.Contents.{Contents, Named}
 use Rattle.term_changes.specs.Slots.{Slots, Store, HaveDistinctLabels, labels, content, slot_of, contents}
 use Rattle.term_changes.specs.Entries.{slot_tree, slot_text, put}
 use Rattle.term_changes.proofs.ContentsLemmas.{tree_put, tree_taken, module_put, module_taken, tree_of_name, module_of_name}
-use Rattle.session_history.specs.Differences.{difference_line, tree_lines, text_lines, names_of, lines_of, changes_of}
+use Rattle.session_history.specs.Differences.{difference_line, tree_lines, text_lines, changes_of}
 use Rattle.session_history.specs.inside.Told.{IsAsked}
 use Rattle.session_history.proofs.DifferenceLemmas.{differences_same}
 use Rattle.session_history.proofs.NamesLemmas.{among, asked_of, lines_by_name}

@@ -1,17 +1,17 @@
 -- Where trees differ.
-use Rattle.std.proofs.Common.{◌≡◌, ℕ, zero, suc, ◌+◌, ◌<◌, ◌≤◌, Bool, true, false, ◌&&◌, ◌↔◌, List, [], ◌∷◌, ◌++◌, length, get_or, set, slice_get, Some, map, drop, refl, sym, ap, ◌∙◌, subst, arith, append_assoc, append-nil}
+use Rattle.std.proofs.Common.{◌≡◌, ℕ, suc, ◌+◌, ◌<◌, ◌≤◌, Bool, true, false, ◌&&◌, ◌↔◌, List, [], ◌∷◌, ◌++◌, length, get_or, set, slice_get, Some, drop, refl, sym, ap, ◌∙◌, arith, append-nil}
 use Rattle.std.specs.Ordering.{int_eq}
 use Rattle.std.proofs.Math.Seq.{set-append_seam}
 use Rattle.std.proofs.lemmas.List.{drop_more, drop_all, length-set}
 use Rattle.std.proofs.lemmas.Bool.Decides.{Decides-int_eq}
-use Rattle.term_core.specs.Tree.{same_name, Head, application, list, tuple, Tree, Trees, integer, branch, none, more, to_list, of_list, children, annotations, with_annotations, with_child}
+use Rattle.term_core.specs.Tree.{same_name, Head, list, Tree, Trees, integer, branch, none, more, to_list, of_list, children, annotations, with_annotations, with_child}
 use Rattle.term_core.specs.Kind.{made_of}
 use Rattle.term_core.specs.declared.kind.Kind.{Kind}
 use Rattle.term_core.specs.declared.kind.Kind.TheVariants.{Integer, Application, List as AList, Tuple}
 use Rattle.term_core.proofs.TreeLemmas.{to_list-of_list, of_list-to_list}
-use Rattle.strategy_meaning.specs.Same.{same_head, same_tree, same_trees}
+use Rattle.strategy_meaning.specs.Same.{same_head, same_trees}
 use Rattle.strategy_meaning.proofs.SameLemmas.{head-self, same_is_equal}
-use Rattle.session_history.specs.Differences.{Difference, subterms_differ, annotations_differ, as_many, annotated, differences, differences_from}
+use Rattle.session_history.specs.Differences.{subterms_differ, annotations_differ, as_many, annotated, differences, differences_from}
 use Rattle.session_history.specs.inside.Lined.{same_root, same_kind}
 
 -- ---- tests

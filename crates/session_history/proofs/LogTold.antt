@@ -1,25 +1,24 @@
 -- What a log tells, entry by entry, in the order of names and places.
-use Rattle.std.proofs.Common.{◌≡◌, ℕ, zero, suc, ◌+◌, ◌<◌, ◌⊎◌, inl, inr, Bool, true, false, cond, ◌||◌, List, [], ◌∷◌, ◌++◌, length, map, set, slice_get, Some, None, is_some, IsSome, option_map, refl, sym, ap, subst, ◌∙◌, arith, append_assoc, append-nil, nat_eq, if◌then◌else◌}
+use Rattle.std.proofs.Common.{◌≡◌, ℕ, zero, suc, ◌+◌, ◌⊎◌, inl, inr, true, false, ◌||◌, List, [], ◌∷◌, ◌++◌, map, set, slice_get, Some, None, IsSome, option_map, refl, sym, ap, subst, ◌∙◌, arith, append_assoc, append-nil, nat_eq, if◌then◌else◌}
 use Rattle.std.specs.Prelude.{option_and_then}
 use Rattle.std.specs.declared.option.Option.{Option}
 use Rattle.std.specs.Option.{option_map_or}
 use Rattle.std.specs.List.{flat_map, IsDistinct}
 use Rattle.std.specs.Ordering.{nat_cmp, is_eq}
-use Rattle.std.specs.declared.cmp.Ordering.{Ordering}
-use Rattle.std.specs.declared.cmp.Ordering.TheVariants.{Less, Equal, Greater}
+use Rattle.std.specs.declared.cmp.Ordering.TheVariants.{Less}
 use Rattle.std.specs.Cmp.Lexicographic.{slice_cmp, pointwise, nat_list_cmp_total, bytes_decides}
 use Rattle.std.specs.FinMap as finmap
 use Rattle.std.proofs.lemmas.List.{map-append}
 use Rattle.std.proofs.lemmas.Map.Text.{is_eq-slice_cmp}
-use Rattle.term_core.specs.Tree.{Tree, integer, branch, to_list, children, annotations, with_annotations, with_child, of_list}
+use Rattle.term_core.specs.Tree.{Tree, integer, branch, to_list, children, annotations, with_annotations, with_child}
 use Rattle.term_core.proofs.TreeLemmas.{to_list-of_list}
 use Rattle.term_paths.specs.Paths.{at, set_at, set_annotations_at}
 use Rattle.term_paths.proofs.PathLemmas.{changed_at, child-with_child, set_at-changed, set_annotations_at-changed}
 use Rattle.term_changes.specs.Contents.{Contents}
 use Rattle.term_changes.specs.Slots.{Slots, Store, HaveDistinctLabels, labels, content, with_content, slot_of, contents}
-use Rattle.term_changes.specs.Entries.{Entry, slot_tree, subterm, subterm_annotations, slot_text, put, before, subterm_in, HasPlace, Fits}
+use Rattle.term_changes.specs.Entries.{Entry, slot_tree, subterm, subterm_annotations, slot_text, put, before, Fits}
 use Rattle.change_log.proofs.PlaceLemmas.{content_of_other}
-use Rattle.session_history.specs.Differences.{Difference, annotated, differences, difference_line, tree_lines, text_lines, changes_of}
+use Rattle.session_history.specs.Differences.{differences, difference_line, tree_lines, text_lines, changes_of}
 use Rattle.session_history.specs.inside.Told.{entry_lines, IsNamed, AllAs, those, if_asked, asked_lines}
 use Rattle.session_history.proofs.AgreeLemmas.{Along, Later, change_differs, along_itself, later_kept}
 use Rattle.session_history.proofs.OneTreeLemmas.{change_of, path_of, told_at, MayGoOn, Agrees, agrees_itself, told_at_end, agrees_kept}

@@ -1,16 +1,14 @@
 -- What entries at places in order tell of one tree.
-use Rattle.std.proofs.Common.{◌≡◌, ℕ, ◌⊎◌, inl, inr, Bool, true, List, [], ◌∷◌, ◌++◌, length, slice_get, Some, None, refl, sym, ap, ◌∙◌, subst, arith, append-nil}
+use Rattle.std.proofs.Common.{◌≡◌, ℕ, true, List, [], ◌∷◌, ◌++◌, slice_get, Some, None, refl, sym, ap, ◌∙◌, append-nil}
 use Rattle.std.specs.List.{flat_map}
 use Rattle.std.specs.Option.{option_map_or}
-use Rattle.std.specs.declared.option.Option.{Option}
-use Rattle.term_core.specs.Tree.{Tree, Trees, integer, branch, to_list, of_list, children, annotations, with_annotations, with_child}
-use Rattle.term_core.proofs.TreeLemmas.{to_list-of_list, of_list-to_list}
-use Rattle.term_paths.specs.Paths.{at, set_at, set_annotations_at}
-use Rattle.term_paths.proofs.PathLemmas.{changed_at, set_at-changed, set_annotations_at-changed}
+use Rattle.term_core.specs.Tree.{Tree, of_list, children, annotations, with_annotations, with_child}
+use Rattle.term_paths.specs.Paths.{at}
+use Rattle.term_paths.proofs.PathLemmas.{changed_at}
 use Rattle.term_changes.specs.Entries.{Entry, slot_tree, subterm, subterm_annotations, slot_text}
 use Rattle.session_history.specs.Differences.{Difference, annotated, differences, differences_from}
 use Rattle.session_history.specs.inside.Lined.{same_root}
-use Rattle.session_history.proofs.DifferenceLemmas.{as_many_count, as_many_by, differences_same, differ_below, annotated_same, root_same, root_kept, child_kept, child_notes}
+use Rattle.session_history.proofs.DifferenceLemmas.{differences_same, differ_below, annotated_same, root_same, root_kept, child_kept, child_notes}
 use Rattle.session_history.proofs.AgreeLemmas.{Along, Later, change_differs, along_itself, later_kept}
 
 -- ---- one entry

@@ -1,19 +1,18 @@
 -- Entries at disjoint places that are sorted by kind, name and path come in order.
-use Rattle.std.proofs.Common.{◌≡◌, ℕ, ◌+◌, ◌<◌, ◌⊎◌, inl, inr, Bool, true, false, List, [], ◌∷◌, ◌++◌, Some, refl, sym, ap, ◌∙◌, subst, arith, append-nil}
+use Rattle.std.proofs.Common.{◌≡◌, ℕ, ◌<◌, ◌⊎◌, inl, inr, true, false, List, [], ◌∷◌, refl, sym, ap, ◌∙◌, subst, append-nil}
 use Rattle.std.specs.Ordering.{nat_cmp, ordering_then}
-use Rattle.std.specs.declared.cmp.Ordering.{Ordering}
 use Rattle.std.specs.declared.cmp.Ordering.TheVariants.{Less, Equal, Greater}
 use Rattle.std.specs.Cmp.{ranked}
 use Rattle.std.specs.Cmp.Lexicographic.{slice_cmp}
 use Rattle.std.proofs.lemmas.Map.Lookups.{exact_bytes}
 use Rattle.term_paths.specs.Paths as path
-use Rattle.term_changes.specs.Slots.{Store, slot_of}
+use Rattle.term_changes.specs.Slots.{Store}
 use Rattle.term_changes.specs.Entries.{Entry, slot_tree, subterm, subterm_annotations, slot_text}
 use Rattle.term_changes.specs.Compact.{EntriesAreApart}
-use Rattle.session_history.specs.inside.Told.{IsNamed, AllAs, is_of_text}
+use Rattle.session_history.specs.inside.Told.{IsNamed, is_of_text}
 use Rattle.session_history.proofs.AgreeLemmas.{Later}
 use Rattle.session_history.proofs.OneTreeLemmas.{path_of}
-use Rattle.session_history.proofs.LogTold.{Comes, ComeInOrder, TreeComes, PartComes, TextComes, same_slot, same_text_slot}
+use Rattle.session_history.proofs.LogTold.{Comes, same_slot, same_text_slot}
 
 nat_less : (i j : ℕ) → nat_cmp i j ≡ Less → i < j
 nat_less i j e = ranked i j Less (sym e)

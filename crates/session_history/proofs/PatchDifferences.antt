@@ -1,19 +1,19 @@
 -- What a patch changed in a tree, place by place.
-use Rattle.std.proofs.Common.{◌≡◌, ℕ, zero, suc, ◌+◌, ◌-◌, ◌<◌, ◌≤◌, true, Some, List, [], ◌∷◌, ◌++◌, length, get_or, map, take, drop, refl, sym, ap, ◌∙◌, subst, arith, append_assoc, append-nil}
+use Rattle.std.proofs.Common.{◌≡◌, ℕ, zero, suc, ◌+◌, ◌-◌, ◌<◌, ◌≤◌, Some, List, [], ◌∷◌, ◌++◌, length, get_or, take, drop, refl, sym, ap, ◌∙◌, arith}
 use Rattle.std.proofs.lemmas.List.{length-take, length-drop, drop-drop, drop_all, get_or-drop}
-use Rattle.term_core.specs.Tree.{Tree, Trees, integer, branch, none, more, to_list, of_list, children, annotations}
+use Rattle.term_core.specs.Tree.{Tree, integer, branch, none, more, to_list, of_list, children}
 use Rattle.term_core.proofs.TreeLemmas.{to_list-of_list, of_list-to_list}
 use Rattle.strategy_meaning.proofs.SameLemmas.{head-self}
-use Rattle.term_changes.specs.Change.{Change, same, inside, replaced, Changes, no_more, and_then, changed, changed_all}
+use Rattle.term_changes.specs.Change.{Change, inside, Changes, no_more, and_then, changed, changed_all}
 use Rattle.term_changes.specs.Items.{Item, after_left, items_changes, first_change}
 use Rattle.term_changes.specs.Reading.{IsNextItem}
 use Rattle.term_changes.specs.declared.reading.PatchItem.{PatchItem}
 use Rattle.term_changes.specs.declared.reading.PatchItem.TheVariants.{Term, Node}
 use Rattle.term_changes.proofs.FollowLemmas.{length-changed}
 use Rattle.term_changes.proofs.WalkLemmas.{changed_nowhere}
-use Rattle.session_history.specs.Differences.{Difference, annotated, differences, differences_from}
+use Rattle.session_history.specs.Differences.{differences, differences_from}
 use Rattle.session_history.specs.inside.ReadPatches.{kids_of, change_of, differences_of, weights, items_weight}
-use Rattle.session_history.proofs.DifferenceLemmas.{trees_same, as_many_by, differences_same, from_same, annotated_same}
+use Rattle.session_history.proofs.DifferenceLemmas.{trees_same, as_many_by, differences_same, from_same}
 
 -- a node that is changed inside
 pub node_differs : (path : List ℕ) (cs : Changes) (t : Tree)

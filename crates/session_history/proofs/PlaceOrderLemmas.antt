@@ -1,11 +1,11 @@
 -- The places where trees differ are in order.
-use Rattle.std.proofs.Common.{◌≡◌, ℕ, ◌+◌, ◌<◌, ◌≤◌, ◌⊎◌, inl, inr, Bool, true, false, ◌&&◌, List, [], ◌∷◌, ◌++◌, refl, sym, ap, ◌∙◌, subst, arith, append_assoc, append-nil, if◌then◌else◌}
+use Rattle.std.proofs.Common.{◌≡◌, ℕ, ◌+◌, ◌<◌, ◌≤◌, inl, inr, true, false, ◌&&◌, List, [], ◌∷◌, ◌++◌, refl, sym, ◌∙◌, subst, arith, append_assoc, append-nil, if◌then◌else◌}
 use Rattle.std.specs.Ordering.{int_eq}
 use Rattle.term_core.specs.Tree.{Tree, Trees, integer, branch, none, more}
 use Rattle.strategy_meaning.specs.Same.{same_head, same_trees}
 use Rattle.strategy_meaning.specs.Outermost.{IsBefore}
 use Rattle.session_history.specs.Differences.{Difference, subterms_differ, annotations_differ, as_many, annotated, differences, differences_from}
-use Rattle.session_history.specs.DifferenceLaws.{place, IsBelowAnnotated, ComesFirst, AreInPlaceOrder, DifferencesAreInOrder}
+use Rattle.session_history.specs.DifferenceLaws.{place, ComesFirst, AreInPlaceOrder, DifferencesAreInOrder}
 
 abbrev AllAt : (List ℕ → Type 0) → List Difference → Type 0
 AllAt P [] = Unit {0}

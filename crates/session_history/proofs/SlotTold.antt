@@ -1,11 +1,10 @@
 -- The slots of a log's entries.
-use Rattle.std.proofs.Common.{◌≡◌, ℕ, ◌<◌, List, [], ◌∷◌, length, slice_get, Some, None, IsSome, refl, sym, ap, subst, ◌∙◌, option_map, arith}
+use Rattle.std.proofs.Common.{◌≡◌, ℕ, ◌<◌, List, [], ◌∷◌, length, slice_get, Some, None, IsSome, refl, ◌∙◌, option_map, arith}
 use Rattle.std.specs.Prelude.{option_and_then}
-use Rattle.std.specs.declared.option.Option.{Option}
 use Rattle.std.proofs.lemmas.Option.{slice_get_within}
 use Rattle.term_core.specs.Tree.{Tree}
 use Rattle.term_paths.specs.Paths.{at, set_at, set_annotations_at}
-use Rattle.term_changes.specs.Slots.{Slots, Store, content, with_content}
+use Rattle.term_changes.specs.Slots.{Slots, Store, content}
 use Rattle.term_changes.specs.Entries.{Entry, slot_tree, subterm, subterm_annotations, slot_text, put, before, HasPlace, Fits}
 use Rattle.term_changes.proofs.SlotLemmas.{length-with_content}
 use Rattle.session_history.specs.inside.Told.{HasSlot, HaveSlots}

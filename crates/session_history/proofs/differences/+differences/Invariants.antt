@@ -1,4 +1,4 @@
-use Rattle.std.proofs.Common.{◌≡◌, ◌≤◌, ◌+◌, ◌*◌, map, drop}
+use Rattle.std.proofs.Common.{◌≡◌, ◌+◌, ◌*◌, map, drop}
 use Rattle.term_core.specs.Tree.{of_list}
 use Rattle.term_core.specs.Size.{height, heights}
 use Rattle.session_history.specs.Differences.{differences_from, difference_line}

@@ -1,6 +1,5 @@
 use Rattle.std.proofs.Common.{◌∙◌, Some, refl, sym, ap}
-use Rattle.std.specs.Option.{option_map_or}
-use Rattle.term_changes.specs.Exchange.{changed_in, taken_in}
+use Rattle.term_changes.specs.Exchange.{changed_in}
 use Rattle.term_changes.proofs.SlotLemmas.{tree_stays, empty_put, tree_put}
 use Rattle.change_log.proofs.slots.Slots+Term.exchange.Goals as goal
 
