@@ -3,7 +3,7 @@
 
 use std::alloc::Global;
 use std::test::Fail;
-use strategy_parse::{ParseFault, parse_module, parse_strategy};
+use strategy_parse::{parse_module, parse_strategy};
 use strategy_syntax::{Module, Strategy};
 
 // In a box, here and below: a box is dropped by a call, while the drop of its content is proved
@@ -167,28 +167,8 @@ fn module_is_as_written(alloc: Global) -> Result<bool, Fail> {
     Ok(is_as_written(&module))
 }
 
-fn many_commas(alloc: Global) -> Result<Vec<u8>, Fail> {
-    Ok(vec![in alloc; b','; 4001usize]?)
-}
-
 #[test]
-fn parts_and_faults(rt: HostRuntime) -> Result<(), Fail> {
-    let alloc = rt.alloc();
-    assert!(rt; module_is_as_written(alloc)?);
-    assert!(rt;
-        matches!(
-            parse_strategy(alloc, b"id;").err(),
-            Some(ParseFault::Syntax)
-        )
-    );
-    assert!(rt;
-        matches!(
-            parse_module(alloc, b"module").err(),
-            Some(ParseFault::Syntax)
-        )
-    );
-    let commas = many_commas(alloc)?;
-    assert!(rt; matches!(parse_strategy(alloc, &commas).err(), Some(ParseFault::Deep)));
-    assert!(rt; matches!(parse_module(alloc, &commas).err(), Some(ParseFault::Deep)));
+fn parts_are_as_written(rt: HostRuntime) -> Result<(), Fail> {
+    assert!(rt; module_is_as_written(rt.alloc())?);
     Ok(())
 }
