@@ -1,12 +1,11 @@
-//! Paths, and the subterms that they lead to.
+//! Paths that are built and compared, and the subterms that they lead to.
 
 use std::alloc::Global;
 use std::test::Fail;
 use term_core::{Kind, Term};
 use term_paths::{
-    Path, PathFault, at, at_mut, at_parts, at_parts_mut, change_at, change_at_parts,
-    parts_lie_within, read_path, swap_annotations_at, swap_annotations_at_parts, swap_at,
-    swap_at_parts,
+    Path, at, at_mut, at_parts, at_parts_mut, change_at, change_at_parts, parts_lie_within,
+    swap_annotations_at, swap_annotations_at_parts, swap_at, swap_at_parts,
 };
 
 fn path(alloc: Global, parts: &[usize]) -> Result<Path, Fail> {
@@ -32,26 +31,6 @@ fn is_integer(term: Option<&Term>, value: i64) -> bool {
     term.is_some_and(|term| matches!(term.kind(), Kind::Integer(found) if found == value))
 }
 
-fn is_read(alloc: Global, text: &str, parts: &[usize]) -> bool {
-    match read_path(alloc, text.as_bytes()) {
-        Ok(path) => path.parts() == parts,
-        Err(_) => false,
-    }
-}
-
-#[test]
-fn paths_are_read(rt: HostRuntime) {
-    let alloc = rt.alloc();
-    assert!(rt; is_read(alloc, "/", &[]));
-    assert!(rt; is_read(alloc, "/00/4294967295", &[0, 4_294_967_295]));
-    assert!(rt;
-        matches!(
-            read_path(alloc, b"/4294967296").err(),
-            Some(PathFault::Line)
-        )
-    );
-}
-
 // From the root to 3/0 and back up.
 fn goes_down_and_up(alloc: Global) -> Result<bool, Fail> {
     let mut path = Path::root(alloc);
@@ -66,12 +45,6 @@ fn goes_down_and_up(alloc: Global) -> Result<bool, Fail> {
     let parts_lie = parts_lie_within(&[3, 0], &[]) && !parts_lie_within(&[3, 1], &[3, 0]);
     let are_parts = path.into_parts().as_slice() == [3].as_slice();
     Ok(was_root && is_down && was_same && is_up && lie && parts_lie && are_parts)
-}
-
-#[test]
-fn paths_go_down_and_up(rt: HostRuntime) -> Result<(), Fail> {
-    assert!(rt; goes_down_and_up(rt.alloc())?);
-    Ok(())
 }
 
 // What some paths find in the tree.
@@ -136,8 +109,10 @@ fn annotations_are_swapped(alloc: Global) -> Result<bool, Fail> {
 }
 
 #[test]
-fn subterms_are_found_and_changed(rt: HostRuntime) -> Result<(), Fail> {
-    assert!(rt; are_subterms(rt.alloc())?);
-    assert!(rt; annotations_are_swapped(rt.alloc())?);
+fn paths_lead_to_subterms(rt: HostRuntime) -> Result<(), Fail> {
+    let alloc = rt.alloc();
+    assert!(rt;
+        goes_down_and_up(alloc)? && are_subterms(alloc)? && annotations_are_swapped(alloc)?
+    );
     Ok(())
 }
