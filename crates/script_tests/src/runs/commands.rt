@@ -7,11 +7,9 @@ use std::alloc::Global;
 use std::test::Fail;
 
 // Whether a new session gives these answers to the first command, and to one that is too long.
-fn answers(alloc: Global, command: &[u8], first: &[u8], second: &[u8]) -> bool {
-    let mut session = new_session(alloc);
-    let Ok(mut answer) = Answer::new(alloc) else {
-        return false;
-    };
+fn answers(alloc: Global, command: &[u8], first: &[u8], second: &[u8]) -> Result<bool, Fail> {
+    let mut session = new_session(alloc)?;
+    let mut answer = Answer::new(alloc)?;
     let is_accepted = answer_text(
         alloc,
         &mut session,
@@ -21,18 +19,12 @@ fn answers(alloc: Global, command: &[u8], first: &[u8], second: &[u8]) -> bool {
     );
     let is_first = is_accepted && answer.bytes() == first;
     let is_long = answer_text(alloc, &mut session, Piece::Long, MAX_BUDGET, &mut answer);
-    is_first && !is_long && answer.bytes() == second
+    Ok(is_first && !is_long && answer.bytes() == second)
 }
 
 #[test]
 fn answers_commands(rt: HostRuntime) -> Result<(), Fail> {
-    assert!(rt;
-        answers(
-            rt.alloc(),
-            b"history",
-            b"undo 0 redo 0\n",
-            b"refused 3 long\n"
-        )
-    );
+    let (first, second) = (b"undo 0 redo 0\n", b"refused 3 long\n");
+    assert!(rt; answers(rt.alloc(), b"history", first, second)?);
     Ok(())
 }

@@ -23,13 +23,14 @@ fn is_answered<M: Meaning>(
     primitives: Vec<Primitive<M>>,
     script: &[u8],
     answers: &[u8],
-) -> bool {
-    let mut session = Session::new(alloc, Primitives::new(primitives));
+) -> Result<bool, Fail> {
+    let session = Session::new(alloc, Primitives::new(primitives));
+    let mut session = Box::new(alloc, session)?;
     let mut source = Bytes::new(script);
     let mut sink = Held::new(alloc);
     let settings = settings(Framing::Continued, false);
     let ended = run(alloc, &mut session, &mut source, &mut sink, settings);
-    ended.is_ok() && sink.bytes() == answers
+    Ok(ended.is_ok() && sink.bytes() == answers)
 }
 
 // The operation is arbitrary, as long as it computes what its name means.
@@ -45,7 +46,7 @@ fn is_answered_by_pick<M: Meaning>(
     let name = Vec::from_slice(alloc, b"pick")?;
     let mut primitives = Vec::new(alloc);
     primitives.push(Primitive::<M>::new(name, 1, pick))?;
-    Ok(is_answered(alloc, primitives, script, answers))
+    is_answered(alloc, primitives, script, answers)
 }
 
 // Whether a session with `pick` gives these answers. The closure owns its choices.
@@ -93,7 +94,7 @@ fn is_answered_by_standard<M: Meaning>(
     requires { ComputeStandard M.Operation.may_run M.Operation.answers M.meaning operations }
 {
     let primitives = standard_primitives::<M>(alloc, operations)?;
-    Ok(is_answered(alloc, primitives, script, answers))
+    is_answered(alloc, primitives, script, answers)
 }
 
 // Whether a session with the standard primitives, in boxes, gives these answers.

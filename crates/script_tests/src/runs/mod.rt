@@ -11,9 +11,13 @@ use prim_core::{NoPrimitives, Primitives};
 use script_core::{Framing, RunFault, Settings, Summary};
 use session_core::{MAX_BUDGET, Session};
 use std::alloc::Global;
+use std::test::Fail;
 
-fn new_session(alloc: Global) -> Session<NoPrimitives> {
-    Session::new(alloc, Primitives::new(Vec::new(alloc)))
+// A new session, in a box, which is dropped by a call: the drop of a session itself is proved anew
+// in each function that holds one.
+fn new_session(alloc: Global) -> Result<Box<Session<NoPrimitives>>, Fail> {
+    let session = Session::new(alloc, Primitives::new(Vec::new(alloc)));
+    Ok(Box::new(alloc, session)?)
 }
 
 /// How a run is to end.

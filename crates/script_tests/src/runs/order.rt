@@ -81,14 +81,14 @@ fn order_of(
     script: &[u8],
     settings: Settings,
     early: usize,
-) -> (usize, usize, bool) {
+) -> Result<(usize, usize, bool), Fail> {
+    let mut session = new_session(alloc)?;
     let order = Order {
         written: Cell::new(0),
         flushed: Cell::new(0),
         reads: Cell::new(0),
         is_kept: Cell::new(true),
     };
-    let mut session = new_session(alloc);
     let mut source = Counted::new(TypedReader {
         rest: script,
         order: &order,
@@ -97,7 +97,7 @@ fn order_of(
     let mut sink = Counted::new(SeenWriter { order: &order });
     let outcome = run(alloc, &mut session, &mut source, &mut sink, settings);
     let is_kept = order.is_kept.get() && outcome.is_ok() && source.failures() == 0;
-    (order.written.get(), order.flushed.get(), is_kept)
+    Ok((order.written.get(), order.flushed.get(), is_kept))
 }
 
 // Each answer is flushed before the next read, and the last at the end. A line that is a command is
@@ -109,8 +109,8 @@ fn flushes_before_reads(rt: HostRuntime) -> Result<(), Fail> {
         (settings(Framing::Continued, false), 0),
         (settings(Framing::Lines, false), 1),
     ] {
-        let seen = order_of(rt.alloc(), script, settings, early);
-        assert_eq!(rt; seen, (3 + 2 + 18 + 8, 31, true));
+        let seen = order_of(rt.alloc(), script, settings, early)?;
+        assert!(rt; seen == (3 + 2 + 18 + 8, 31, true));
     }
     Ok(())
 }

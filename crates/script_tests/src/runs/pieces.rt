@@ -76,8 +76,8 @@ struct Script<'a> {
     lines: &'a [u64],
 }
 
-fn goes_in_pieces(alloc: Global, script: Script<'_>, most: usize) -> bool {
-    let mut session = new_session(alloc);
+fn goes_in_pieces(alloc: Global, script: Script<'_>, most: usize) -> Result<bool, Fail> {
+    let mut session = new_session(alloc)?;
     let mut source = Counted::new(Reader {
         rest: script.text,
         most,
@@ -98,9 +98,11 @@ fn goes_in_pieces(alloc: Global, script: Script<'_>, most: usize) -> bool {
         &mut lines,
         settings,
     );
-    ended == script.ended
-        && sink.bytes() == script.answers
-        && lines.found.as_slice() == script.lines
+    Ok(
+        ended == script.ended
+            && sink.bytes() == script.answers
+            && lines.found.as_slice() == script.lines,
+    )
 }
 
 // Every kind of boundary between commands: CR LF, lines that go on, an empty one, comments between
@@ -115,7 +117,7 @@ fn answers_in_pieces(rt: HostRuntime) -> Result<(), Fail> {
         lines: &[1, 0, 2, 5, 6, 0, 7, 0, 8, 0, 9, 0, 10, 0],
     };
     for most in [1, 2, 4096] {
-        assert!(rt; goes_in_pieces(rt.alloc(), script, most), "{most}");
+        assert!(rt; goes_in_pieces(rt.alloc(), script, most)?, "{most}");
     }
     Ok(())
 }
@@ -131,7 +133,7 @@ fn answers_lines_in_pieces(rt: HostRuntime) -> Result<(), Fail> {
         lines: &[2, 2, 3, 1, 7, 1, 8, 1],
     };
     for most in [1, 2, 4096] {
-        assert!(rt; goes_in_pieces(rt.alloc(), script, most), "{most}");
+        assert!(rt; goes_in_pieces(rt.alloc(), script, most)?, "{most}");
     }
     Ok(())
 }

@@ -32,18 +32,26 @@ fn ended_between(
 }
 
 // Whether a run goes as wanted. Nothing has failed in one that ends well.
-fn goes(alloc: Global, reader: Reader<'_>, narrow: Narrow, stop: bool, wanted: Wanted<'_>) -> bool {
-    let mut session = new_session(alloc);
+fn goes(
+    alloc: Global,
+    reader: Reader<'_>,
+    narrow: Narrow,
+    stop: bool,
+    wanted: Wanted<'_>,
+) -> Result<bool, Fail> {
+    let mut session = new_session(alloc)?;
     let mut held = Vec::new(alloc);
     let writer = Writer {
         held: &mut held,
         narrow,
     };
     let (ended, reads, writes) = ended_between(alloc, &mut session, reader, writer, stop);
-    ended == wanted.ended
-        && held.as_slice() == wanted.written
-        && session.counts().0 == wanted.steps
-        && (ended.is_err() || (reads == 0 && writes == 0))
+    Ok(
+        ended == wanted.ended
+            && held.as_slice() == wanted.written
+            && session.counts().0 == wanted.steps
+            && (ended.is_err() || (reads == 0 && writes == 0)),
+    )
 }
 
 fn reader(rest: &[u8], most: usize, fails: bool) -> Reader<'_> {
@@ -96,7 +104,7 @@ fn answers_complete_commands_before_a_read_fault(rt: HostRuntime) -> Result<(), 
         };
         for most in [1, 4096] {
             let reader = reader(&JOINED.text[..k], most, true);
-            assert!(rt; goes(rt.alloc(), reader, WIDE, false, wanted), "{k}");
+            assert!(rt; goes(rt.alloc(), reader, WIDE, false, wanted)?, "{k}");
         }
     }
     Ok(())
@@ -112,20 +120,20 @@ fn stops_before_a_read_fault(rt: HostRuntime) -> Result<(), Fail> {
         ended: ends(0, 1),
     };
     let all = reader(script, 4096, true);
-    assert!(rt; goes(rt.alloc(), all, WIDE, true, stopped));
+    assert!(rt; goes(rt.alloc(), all, WIDE, true, stopped)?);
     let failed = Wanted {
         written: b"",
         steps: 0,
         ended: Err(RunFault::Read),
     };
     let first = reader(&script[..5], 4096, true);
-    assert!(rt; goes(rt.alloc(), first, WIDE, true, failed));
+    assert!(rt; goes(rt.alloc(), first, WIDE, true, failed)?);
     Ok(())
 }
 
 // Whether a run breaks off at the answer for which the writer has no room, and ends well if all
 // fits.
-fn breaks_off(alloc: Global, script: Script<'_>, narrow: Narrow) -> bool {
+fn breaks_off(alloc: Global, script: Script<'_>, narrow: Narrow) -> Result<bool, Fail> {
     let length = script.answers.len();
     let wanted = Wanted {
         written: &script.answers[..narrow.room.min(length)],
@@ -162,8 +170,8 @@ fn breaks_off_at_a_write_fault(rt: HostRuntime) -> Result<(), Fail> {
                     fails,
                     ..WIDE
                 };
-                assert!(rt; breaks_off(rt.alloc(), JOINED, narrow), "{room}");
-                assert!(rt; breaks_off(rt.alloc(), CHANGED, narrow), "{room}");
+                assert!(rt; breaks_off(rt.alloc(), JOINED, narrow)?, "{room}");
+                assert!(rt; breaks_off(rt.alloc(), CHANGED, narrow)?, "{room}");
             }
         }
     }
@@ -192,7 +200,7 @@ fn tries_again_and_flushes(rt: HostRuntime) -> Result<(), Fail> {
                 ends(3, 0)
             },
         };
-        assert!(rt; goes(rt.alloc(), reader, narrow, false, wanted));
+        assert!(rt; goes(rt.alloc(), reader, narrow, false, wanted)?);
     }
     Ok(())
 }
