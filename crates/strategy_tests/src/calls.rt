@@ -33,7 +33,7 @@ pub struct Case<'a> {
 }
 
 // The calls that change a tree of a store.
-#[derive(Clone, Copy, PartialEq)]
+#[derive(Clone, Copy)]
 enum Call {
     Apply,
     Plan,

@@ -1,13 +1,17 @@
-//! Calls of strategies that no command makes: rows by each call of the evaluator, primitives of a
-//! host, strategies that no text leads to, the deepest syntax, and modules that are replaced. The
-//! crate holds only tests, so that checker and machine are proved once and not again with their
-//! tests.
+//! Calls of strategies that no command makes: texts that are parsed alike, where the definitions of a
+//! module are, rows by each call of the evaluator, primitives of a host, strategies that no text
+//! leads to, and modules that are replaced. The crate holds only tests, so that parser, checker and
+//! machine are proved once and not again with their tests. What texts are read as, and what is wrong
+//! with one that isn't read, is shown by the answers of commands in `rows/` at the top of the
+//! repository.
 #![tactic(auto)]
 
 #[cfg(test)]
+mod alike;
+#[cfg(test)]
 mod calls;
 #[cfg(test)]
-mod deep;
+mod definitions;
 #[cfg(test)]
 mod hosts;
 #[cfg(test)]

@@ -8,15 +8,15 @@ use strategy_syntax::{Module, Strategy};
 
 // In a box, here and below: a box is dropped by a call, while the drop of its content is proved
 // anew on each way out.
-fn strategy(alloc: Global, text: &str) -> Result<Box<Strategy>, Fail> {
-    Ok(Box::new(alloc, parse_strategy(alloc, text.as_bytes())?)?)
+fn strategy(alloc: Global, text: &[u8]) -> Result<Box<Strategy>, Fail> {
+    Ok(Box::new(alloc, parse_strategy(alloc, text)?)?)
 }
 
 fn module(alloc: Global, text: &str) -> Result<Box<Module>, Fail> {
     Ok(Box::new(alloc, parse_module(alloc, text.as_bytes())?)?)
 }
 
-fn are_alike(alloc: Global, one: &str, other: &str) -> Result<bool, Fail> {
+fn are_alike(alloc: Global, one: &[u8], other: &[u8]) -> Result<bool, Fail> {
     let one = strategy(alloc, one)?;
     let other = strategy(alloc, other)?;
     Ok(one.equals(&other))
@@ -39,7 +39,7 @@ fn parts(row: &str) -> Result<(&str, &str, bool), Fail> {
 
 fn is_row(alloc: Global, row: &str) -> Result<bool, Fail> {
     let (one, other, alike) = parts(row)?;
-    Ok(are_alike(alloc, one, other)? == alike)
+    Ok(are_alike(alloc, one.as_bytes(), other.as_bytes())? == alike)
 }
 
 fn is_row_of_modules(alloc: Global, row: &str) -> Result<bool, Fail> {
@@ -108,6 +108,40 @@ fn strategies_are_alike(rt: HostRuntime) -> Result<(), Fail> {
     for row in STRATEGIES.trim().lines() {
         assert!(rt; is_row(rt.alloc(), row)?, "at {row}");
     }
+    Ok(())
+}
+
+// The middle with so many of the others before and after it.
+fn nested(
+    alloc: Global,
+    before: &[u8],
+    middle: &[u8],
+    after: &[u8],
+    count: usize,
+) -> Result<Vec<u8>, Fail> {
+    let mut text = Vec::new(alloc);
+    for _ in 0..count {
+        text.extend_from_slice(before)?;
+    }
+    text.extend_from_slice(middle)?;
+    for _ in 0..count {
+        text.extend_from_slice(after)?;
+    }
+    Ok(text)
+}
+
+// The deepest syntax that 4,000 tokens spell, compared and dropped on a stack of 8 MiB: a closure
+// with a condition has six tokens and stands for four levels.
+fn deepest_are_alike(alloc: Global) -> Result<bool, Fail> {
+    let strategy = nested(alloc, b"\\x -> x where ", b"id", b"\\ ", 666)?;
+    let pattern = nested(alloc, b"[", b"x", b"]", 1999)?;
+    let pattern = nested(alloc, b"?", &pattern, b"", 1)?;
+    Ok(are_alike(alloc, &strategy, &strategy)? && are_alike(alloc, &pattern, &pattern)?)
+}
+
+#[test]
+fn deep_strategies_are_alike(rt: HostRuntime) -> Result<(), Fail> {
+    assert!(rt; deepest_are_alike(rt.alloc())?);
     Ok(())
 }
 
