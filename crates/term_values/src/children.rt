@@ -67,6 +67,7 @@ impl<'t> Value<'t> {
     }
 
     // Bounds that hold for each child.
+    #[inline(always)]
     fn child_bounds(&self) -> Bounds
         ensures { AllWithin (children self.now) result }
     {

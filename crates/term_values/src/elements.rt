@@ -70,6 +70,7 @@ impl<'a, 't> Seen<'a, 't> {
         }
     }
 
+    #[inline(always)]
     pub(crate) fn elements(self) -> Elements<'a, 't>
         ensures { result ≡ children (seen_tree self.entry) }
     {

@@ -5,9 +5,10 @@ ghost use Rattle.term_core.specs.Tree.{children, annotations, list_term};
 ghost use Rattle.term_core.specs.Kind.{made_of};
 ghost use Rattle.term_core.specs.Size.{height as height_of};
 ghost use Rattle.term_changes.specs.Standing.{after, standing_tree, unchanged, fresh};
+ghost use Rattle.term_values.specs.inside.ValueView.{parts_list};
 
 use crate::bounds::Bounds;
-use crate::value::{Form, Value};
+use crate::value::{Form, Pair, Single, Value};
 use std::alloc::Global;
 use std::marker::Model;
 use std::rc::Rc;
@@ -33,7 +34,16 @@ pub(crate) enum PartForm<'t> {
 #[cycle(value)]
 pub(crate) struct Changed<'t> {
     pub(crate) of: &'t Term,
-    pub(crate) parts: Vec<Part<'t>>,
+    pub(crate) parts: Parts<'t>,
+}
+
+/// Parts; one or two are stored in the node itself.
+#[derive(Drop)]
+#[cycle(value)]
+pub(crate) enum Parts<'t> {
+    One(Single<Part<'t>>),
+    Two(Pair<Part<'t>>),
+    Many(Vec<Part<'t>>),
 }
 
 impl<'t> Model for Changed<'t> {
@@ -90,6 +100,36 @@ impl<'t> Changed<'t> {
         ensures { result ≡ length (children (after self.now)) }
     {
         self.parts.as_slice().len()
+    }
+}
+
+impl<'t> Parts<'t> {
+    pub(crate) fn new(all: Vec<Part<'t>>) -> Parts<'t>
+        ensures { parts_list result ≡ all.entry.items }
+    {
+        let mut left = all;
+        if left.len() == 1 {
+            let only = left.take_last();
+            return Parts::One(Single { items: [only] });
+        }
+        if left.len() == 2 {
+            let second = left.take_last();
+            let first = left.take_last();
+            return Parts::Two(Pair {
+                items: [first, second],
+            });
+        }
+        Parts::Many(left)
+    }
+
+    pub(crate) fn as_slice(&self) -> &[Part<'t>]
+        ensures { result.now ≡ parts_list self.now }
+    {
+        match self {
+            Parts::One(single) => &single.items,
+            Parts::Two(pair) => &pair.items,
+            Parts::Many(all) => all,
+        }
     }
 }
 

@@ -8,7 +8,7 @@ ghost use Rattle.term_values.specs.inside.Bounded.{Bounded, AllBounded, AllWithi
 
 use crate::bounds::Bounds;
 use crate::build::put_at;
-use crate::part::{Changed, Part, PartForm};
+use crate::part::{Changed, Part, PartForm, Parts};
 use crate::value::{Items, Pair, Single, Value, bounds_of};
 use std::alloc::Global;
 use std::rc::Rc;
@@ -187,7 +187,13 @@ fn changed_part<'t>(alloc: Global, of: &'t Term, parts: Vec<Part<'t>>) -> Result
     let bounds = parts_bounds(parts.as_slice())
         .and(annotation_bounds(of))
         .over();
-    let changed = Rc::new(alloc, Changed { of, parts })?;
+    let changed = Rc::new(
+        alloc,
+        Changed {
+            of,
+            parts: Parts::new(parts),
+        },
+    )?;
     Ok(Part {
         form: PartForm::Inside(changed, bounds),
     })

@@ -19,11 +19,13 @@ use Rattle.term_values.specs.declared.value.Annotations.{Annotations}
 use Rattle.term_values.specs.declared.value.Annotations.TheVariants as annotated
 use Rattle.term_values.specs.declared.value.Items.{Items}
 use Rattle.term_values.specs.declared.value.Items.TheVariants.{One, Two, Many}
+use Rattle.term_values.specs.declared.part.Parts.{Parts}
+use Rattle.term_values.specs.declared.part.Parts.TheVariants as stored
 use Rattle.term_values.specs.declared.part.PartForm.{PartForm}
 use Rattle.term_values.specs.declared.part.PartForm.TheVariants.{Same, Inside, New}
 use Rattle.term_values.specs.declared.part.Changed.TheInside.{Inside as ChangedFields}
-use Rattle.term_values.specs.declared.part.Changed.TheDeep.{deep-Form, deep-Items, deep-Annotations, deep-PartForm}
-use Rattle.term_values.specs.inside.ValueView.{items_list, top_tree, top_shape, annotation_list, form_tree, form_shape, value_size, altered_size, standing_size, altered_of, part_standing, PartsSuit}
+use Rattle.term_values.specs.declared.part.Changed.TheDeep.{deep-Form, deep-Items, deep-Annotations, deep-Parts, deep-PartForm}
+use Rattle.term_values.specs.inside.ValueView.{items_list, top_tree, top_shape, annotation_list, form_tree, form_shape, value_size, altered_size, standing_size, altered_of, parts_list, part_standing, PartsSuit}
 
 most_le : (ts : List Tree) → most (λ t. value_size t + 1) ts ≤ 4 * sizes (of_list ts) + 2
 most_le [] = omega arith
@@ -123,8 +125,13 @@ above_parts_of (branch head kids notes) ps h =
       ap (λ us. sizes (of_list us)) (to_list-of_list (changed_all (standing_changes ps) (to_list kids))),
     )
 
-pub above_parts : (a : ChangedFields) → PartsSuit a → max (most (λ p. standing_size p + 1) a.parts.items) 0 ≤ altered_size (altered_of a)
-above_parts a h = omega (arith, above_parts_of a.of.now a.parts.items h)
+deep_le : (ps : Parts) → deep-Parts ps ≤ most (λ p. standing_size p + 1) (parts_list ps) + 1
+deep_le (stored.One ps) = omega arith
+deep_le (stored.Two ps) = omega arith
+deep_le (stored.Many ps) = omega arith
+
+pub above_parts : (a : ChangedFields) → PartsSuit a → max (deep-Parts a.parts) 0 ≤ altered_size (altered_of a)
+above_parts a h = omega (arith, deep_le a.parts, above_parts_of a.of.now (parts_list a.parts) h)
 
 pub above_part : (f : PartForm) → max (deep-PartForm f) 0 ≤ standing_size (part_standing f)
 above_part (Same t b) = omega arith

@@ -16,6 +16,8 @@ use Rattle.term_values.specs.declared.value.Items.{Items}
 use Rattle.term_values.specs.declared.value.Items.TheVariants.{One, Two, Many}
 use Rattle.term_values.specs.declared.part.PartForm.{PartForm}
 use Rattle.term_values.specs.declared.part.PartForm.TheVariants.{Same, Inside, New}
+use Rattle.term_values.specs.declared.part.Parts.{Parts}
+use Rattle.term_values.specs.declared.part.Parts.TheVariants as stored
 use Rattle.term_values.specs.declared.value.Value.TheInside.{Inside as ValueFields}
 use Rattle.term_values.specs.declared.part.Changed.TheInside.{Inside as ChangedFields}
 use Rattle.term_values.specs.declared.part.Part.TheInside.{Inside as PartFields}
@@ -71,11 +73,16 @@ pub record HasShape (a : ValueFields) : Type 0 where
 
 -- ---- changed subterms
 
+abbrev pub parts_list : Parts → List Standing
+parts_list (stored.One ps) = ps.items
+parts_list (stored.Two ps) = ps.items
+parts_list (stored.Many ps) = ps.items
+
 abbrev pub altered_of : ChangedFields → Altered
-altered_of a = record { before = a.of.now; changes = standing_changes a.parts.items }
+altered_of a = record { before = a.of.now; changes = standing_changes (parts_list a.parts) }
 
 abbrev pub PartsSuit : ChangedFields → Type 0
-PartsSuit a = SuitAll (children a.of.now) a.parts.items
+PartsSuit a = SuitAll (children a.of.now) (parts_list a.parts)
 
 -- ---- parts
 
