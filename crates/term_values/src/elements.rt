@@ -5,13 +5,13 @@ ghost use Rattle.std.specs.Prelude.{◌≡◌, [], ◌∷◌, ◌++◌, ◌≤�
 ghost use Rattle.term_core.specs.Tree.{children, annotations};
 ghost use Rattle.term_core.specs.Kind.{made_of};
 ghost use Rattle.term_changes.specs.Standing.{after, standing_tree};
-ghost use Rattle.term_values.specs.inside.ValueView.{items_list, annotation_list};
+ghost use Rattle.term_values.specs.inside.ValueView.{items_list, front_list, annotation_list};
 ghost use Rattle.term_values.specs.inside.Bounded.{Bounded};
 ghost use Rattle.term_values.specs.inside.Walk.{seen_tree, run_list};
 
 use crate::bounds::Bounds;
 use crate::part::{Changed, Part, PartForm};
-use crate::value::{Annotations, Form, Items, Joined, Value};
+use crate::value::{Annotations, Form, Front, Items, Joined, Value};
 use std::marker::Model;
 use term_core::{Kind, NoMemory, Term};
 
@@ -298,6 +298,17 @@ impl<'t> Items<'t> {
     }
 }
 
+impl<'t> Front<'t> {
+    pub(crate) fn as_slice(&self) -> &[Value<'t>]
+        ensures { result.now ≡ front_list self.now }
+    {
+        match self {
+            Front::One(single) => &single.items,
+            Front::Chunk(all) => all,
+        }
+    }
+}
+
 impl<'t> Annotations<'t> {
     fn run(&self) -> Run<'_, 't>
         ensures { run_list result ≡ annotation_list self.now }
@@ -364,8 +375,8 @@ impl<'t> Value<'t> {
 }
 
 fn joined_elements<'a, 't>(joined: &'a Joined<'t>) -> Elements<'a, 't>
-    requires { 0 < length (items_list joined.now.front) }
-    ensures { result ≡ items_list joined.now.front ++ children joined.now.after }
+    requires { 0 < length (front_list joined.now.front) }
+    ensures { result ≡ front_list joined.now.front ++ children joined.now.after }
 {
     Elements {
         run: Run::Values(joined.front.as_slice()),

@@ -7,10 +7,10 @@
 ghost use Rattle.std.specs.Prelude.{◌≡◌, ◌≤◌, ◌<◌, ◌+◌, ◌^◌, ◌++◌, ◌∷◌, drop, length, IfOk, OnOk, IsTrue};
 ghost use Rattle.term_core.specs.Tree.{bare, children, annotations, list_term};
 ghost use Rattle.term_values.specs.inside.Shape.{JoinedShape};
-ghost use Rattle.term_values.specs.inside.ValueView.{items_list};
+ghost use Rattle.term_values.specs.inside.ValueView.{front_list};
 
 use crate::build::all_bounds;
-use crate::value::{Form, Items, Joined, Single, Value};
+use crate::value::{Form, Front, Joined, Single, Value};
 use std::alloc::Global;
 use std::rc::Rc;
 use term_core::{Kind, NoMemory, Term};
@@ -186,10 +186,10 @@ fn put_before<'t>(alloc: Global, first: Value<'t>, list: Value<'t>) -> Result<Va
 // The elements of a joined list after the first `skipped`, one by one, so that each later suffix is
 // a node already.
 fn joined_rest<'t>(alloc: Global, list: &Joined<'t>, skipped: usize) -> Result<Value<'t>, NoMemory>
-    requires within { skipped < length (items_list list.now.front) }
-    requires shape { JoinedShape (items_list list.now.front) list.now.after list.now.count }
+    requires within { skipped < length (front_list list.now.front) }
+    requires shape { JoinedShape (front_list list.now.front) list.now.after list.now.count }
     ensures { IfOk result (λ value.
-        value ≡ list_term (drop skipped (items_list list.now.front ++ children list.now.after))) }
+        value ≡ list_term (drop skipped (front_list list.now.front ++ children list.now.after))) }
 {
     let _count = list.count;
     let front = list.front.as_slice();
@@ -236,7 +236,7 @@ pub(crate) fn chunked<'t>(
     while left.len() > skipped {
         let from = left.len().saturating_sub(CHUNK).max(skipped);
         let front = left.split_off(from)?;
-        list = joined(alloc, Items::Many(front), list, 0)?;
+        list = joined(alloc, Front::Chunk(front), list, 0)?;
     }
     Ok(list)
 }
@@ -263,7 +263,7 @@ fn gathered<'t>(
         add_all(&mut all, chunk)?;
         after = &next.after;
     }
-    joined(alloc, Items::Many(all), after.try_clone()?, 0)
+    joined(alloc, Front::Chunk(all), after.try_clone()?, 0)
 }
 
 // Appends holders of the values.
@@ -305,7 +305,7 @@ fn link<'t>(alloc: Global, first: Value<'t>, list: Value<'t>) -> Result<Value<'t
     let joined = Rc::new(
         alloc,
         Joined {
-            front: Items::One(Single { items: [element] }),
+            front: Front::One(Single { items: [element] }),
             after: list,
             count,
             run,
@@ -320,14 +320,14 @@ fn link<'t>(alloc: Global, first: Value<'t>, list: Value<'t>) -> Result<Value<'t
 // The list of these elements in front of those of another list.
 fn joined<'t>(
     alloc: Global,
-    front: Items<'t>,
+    front: Front<'t>,
     after: Value<'t>,
     run: usize,
 ) -> Result<Value<'t>, NoMemory>
-    requires some { 0 < length (items_list front) }
+    requires some { 0 < length (front_list front) }
     requires list { after ≡ list_term (children after) }
-    requires room { length (items_list front) + length (children after) < 2 ^ 64 }
-    ensures { IfOk result (λ value. value ≡ list_term (items_list front.entry ++ children after.entry)) }
+    requires room { length (front_list front) + length (children after) < 2 ^ 64 }
+    ensures { IfOk result (λ value. value ≡ list_term (front_list front.entry ++ children after.entry)) }
 {
     let bounds = all_bounds(front.as_slice()).before(after.bounds);
     let count = front.as_slice().len() + after.child_count();

@@ -97,10 +97,18 @@ pub(crate) enum Items<'t> {
     Many(Vec<Value<'t>>),
 }
 
+/// Elements in front of a list; a single one is stored in the node itself.
+#[derive(Drop)]
+#[cycle(value)]
+pub(crate) enum Front<'t> {
+    One(Single<Value<'t>>),
+    Chunk(Vec<Value<'t>>),
+}
+
 #[derive(Drop)]
 #[cycle(value)]
 pub(crate) struct Joined<'t> {
-    pub(crate) front: Items<'t>,
+    pub(crate) front: Front<'t>,
     pub(crate) after: Value<'t>,
     // the number of elements in all
     pub(crate) count: usize,

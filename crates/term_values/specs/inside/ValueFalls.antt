@@ -19,13 +19,15 @@ use Rattle.term_values.specs.declared.value.Annotations.{Annotations}
 use Rattle.term_values.specs.declared.value.Annotations.TheVariants as annotated
 use Rattle.term_values.specs.declared.value.Items.{Items}
 use Rattle.term_values.specs.declared.value.Items.TheVariants.{One, Two, Many}
+use Rattle.term_values.specs.declared.value.Front.{Front}
+use Rattle.term_values.specs.declared.value.Front.TheVariants as front
 use Rattle.term_values.specs.declared.part.Parts.{Parts}
 use Rattle.term_values.specs.declared.part.Parts.TheVariants as stored
 use Rattle.term_values.specs.declared.part.PartForm.{PartForm}
 use Rattle.term_values.specs.declared.part.PartForm.TheVariants.{Same, Inside, New}
 use Rattle.term_values.specs.declared.part.Changed.TheInside.{Inside as ChangedFields}
-use Rattle.term_values.specs.declared.part.Changed.TheDeep.{deep-Form, deep-Items, deep-Annotations, deep-Parts, deep-PartForm}
-use Rattle.term_values.specs.inside.ValueView.{items_list, top_tree, top_shape, annotation_list, form_tree, form_shape, value_size, altered_size, standing_size, altered_of, parts_list, part_standing, PartsSuit}
+use Rattle.term_values.specs.declared.part.Changed.TheDeep.{deep-Form, deep-Items, deep-Front, deep-Annotations, deep-Parts, deep-PartForm}
+use Rattle.term_values.specs.inside.ValueView.{items_list, front_list, top_tree, top_shape, annotation_list, form_tree, form_shape, value_size, altered_size, standing_size, altered_of, parts_list, part_standing, PartsSuit}
 
 most_le : (ts : List Tree) → most (λ t. value_size t + 1) ts ≤ 4 * sizes (of_list ts) + 2
 most_le [] = omega arith
@@ -58,6 +60,10 @@ above_items (One us) = omega (arith, most_le us.items)
 above_items (Two us) = omega (arith, most_le us.items)
 above_items (Many us) = omega (arith, most_le us.items)
 
+above_front : (us : Front) → deep-Front us ≤ 4 * sizes (of_list (front_list us)) + 2
+above_front (front.One us) = omega (arith, most_le us.items)
+above_front (front.Chunk us) = omega (arith, most_le us.items)
+
 above_annotations : (ns : Annotations) → deep-Annotations ns ≤ 4 * sizes (of_list (annotation_list ns)) + 2
 above_annotations (annotated.Of t) = omega arith
 above_annotations (annotated.Own us) = omega (arith, most_le us.items)
@@ -81,10 +87,10 @@ above_form (Built m) h = omega (arith, above_items m.value.items, top_size m.val
 above_form (Kept c) h = omega (arith, size_parts (after c.value))
 above_form (BareKept c) h = omega (arith, size_annotated (after c.value) [])
 above_form (Joined j) h =
-    let us = items_list j.value.front in
+    let us = front_list j.value.front in
     omega (
       arith,
-      above_items j.value.front,
+      above_front j.value.front,
       sizes-append us (children j.value.after),
       some_size us h.some,
       bare_size j.value.after (ap annotations h.list),

@@ -14,6 +14,8 @@ use Rattle.term_values.specs.declared.value.Annotations.{Annotations}
 use Rattle.term_values.specs.declared.value.Annotations.TheVariants as annotated
 use Rattle.term_values.specs.declared.value.Items.{Items}
 use Rattle.term_values.specs.declared.value.Items.TheVariants.{One, Two, Many}
+use Rattle.term_values.specs.declared.value.Front.{Front}
+use Rattle.term_values.specs.declared.value.Front.TheVariants as front
 use Rattle.term_values.specs.declared.part.PartForm.{PartForm}
 use Rattle.term_values.specs.declared.part.PartForm.TheVariants.{Same, Inside, New}
 use Rattle.term_values.specs.declared.part.Parts.{Parts}
@@ -28,6 +30,10 @@ abbrev pub items_list : Items → List Tree
 items_list (One us) = us.items
 items_list (Two us) = us.items
 items_list (Many us) = us.items
+
+abbrev pub front_list : Front → List Tree
+front_list (front.One us) = us.items
+front_list (front.Chunk us) = us.items
 
 -- a node with this root and these children and annotations; an integer has no children
 abbrev pub top_tree : Top → List Tree → List Tree → Tree
@@ -50,7 +56,7 @@ form_tree (Rest t k) = list_term (drop k (children t.now))
 form_tree (Built m) = top_tree m.value.top (items_list m.value.items) []
 form_tree (Kept c) = after c.value
 form_tree (BareKept c) = bare (after c.value)
-form_tree (Joined j) = list_term (items_list j.value.front ++ children j.value.after)
+form_tree (Joined j) = list_term (front_list j.value.front ++ children j.value.after)
 form_tree (Annotated n) = with_annotations n.value.node (annotation_list n.value.annotations)
 
 abbrev pub form_shape : Form → Type 0
@@ -61,7 +67,7 @@ form_shape (Rest t k) = k ≤ length (children t.now)
 form_shape (Built m) = top_shape m.value.top (items_list m.value.items)
 form_shape (Kept c) = Unit {0}
 form_shape (BareKept c) = Unit {0}
-form_shape (Joined j) = JoinedShape (items_list j.value.front) j.value.after j.value.count
+form_shape (Joined j) = JoinedShape (front_list j.value.front) j.value.after j.value.count
 form_shape (Annotated n) = AnnotatedShape n.value.node (annotation_list n.value.annotations)
 
 abbrev pub view_of : ValueFields → Tree

@@ -1,7 +1,7 @@
 use Rattle.std.proofs.Common.{◌≡◌, ◌+◌, ◌-◌, ◌∷◌, ◌++◌, length, drop, arith, ap, ◌∙◌}
 use Rattle.std.proofs.lemmas.List.{length-append, length-drop}
 use Rattle.term_core.specs.Tree.{children, list_term}
-use Rattle.term_values.specs.inside.ValueView.{items_list}
+use Rattle.term_values.specs.inside.ValueView.{front_list}
 use Rattle.term_values.proofs.ListLemmas.{list_children, link_more}
 use Rattle.term_values.proofs.list.joined_rest.Goals as goal
 
@@ -18,7 +18,7 @@ link-requires-clause-room c =
       length-append (drop at front) ch,
       length-drop at front,
       ap length c.as_slice-front.ensures,
-      length-append (items_list c.args.list.now.front) ch,
+      length-append (front_list c.args.list.now.front) ch,
       c.requires.shape.counted,
       done.1,
       c.loop-at-test.true,

@@ -4,7 +4,7 @@ use Rattle.term_core.specs.Size.{height, heights, size, sizes}
 use Rattle.term_values.specs.declared.value.Joined.{Joined}
 use Rattle.term_values.specs.inside.Bounded.{Bounded}
 use Rattle.term_values.specs.inside.Shape.{JoinedShape}
-use Rattle.term_values.specs.inside.ValueView.{items_list}
+use Rattle.term_values.specs.inside.ValueView.{front_list}
 use Rattle.term_values.proofs.SizeLemmas.{joined_bounded, bounded_along, covers_along}
 use Rattle.term_values.proofs.list.link.Goals as goal
 
@@ -22,11 +22,11 @@ invariant_of-result c =
     let whole = covers_along _ _ _ _ b s h both in
     record {
       shape =
-          subst (λ (x : Joined). JoinedShape (items_list x.front) x.after x.count) (sym c.in_ok-joined.ensures.ok)
+          subst (λ (x : Joined). JoinedShape (front_list x.front) x.after x.count) (sym c.in_ok-joined.ensures.ok)
           (record {
             some = omega arith;
             list = c.requires.list;
             counted = omega (arith, c.child_count-count.ensures);
           });
-      bounded = subst (λ (x : Joined). Bounded (list_term (items_list x.front ++ children x.after)) b) (sym c.in_ok-joined.ensures.ok) (joined_bounded us t b c.requires.list whole);
+      bounded = subst (λ (x : Joined). Bounded (list_term (front_list x.front ++ children x.after)) b) (sym c.in_ok-joined.ensures.ok) (joined_bounded us t b c.requires.list whole);
     }

@@ -3,7 +3,7 @@ use Rattle.term_core.specs.Tree.{children}
 use Rattle.term_core.specs.declared.kind.Kind.TheVariants.{List as AList}
 use Rattle.term_values.specs.declared.value.Made.{Made}
 use Rattle.term_values.specs.declared.value.Annotated.{Annotated}
-use Rattle.term_values.specs.inside.ValueView.{form_tree, top_tree, items_list, annotation_list}
+use Rattle.term_values.specs.inside.ValueView.{form_tree, top_tree, items_list, front_list, annotation_list}
 use Rattle.term_values.proofs.KindLemmas.{kind-made_of, kind-with_annotations, kind_along}
 use Rattle.term_values.proofs.value.Value.+kind.Goals as goal
 
@@ -34,4 +34,4 @@ pub returns-in-Joined : goal.returns-in-Joined
 returns-in-Joined t c =
     let j = c.in-Joined.field-0.value in
     kind_along AList _ c.args.self.now (ap form_tree (sym c.in-Joined.is) ∙ c.self.view_is)
-    (kind-made_of AList (items_list j.front ++ children j.after) [])
+    (kind-made_of AList (front_list j.front ++ children j.after) [])
