@@ -226,7 +226,9 @@ impl Term {
     // Whether there are no children and no annotations.
     #[inline(always)]
     fn is_leaf(&self) -> bool
-        ensures { IsTrue result → height_of self.now ≡ 1 }
+        ensures children { IsTrue result → children self.now ≡ [] }
+        ensures annotations { IsTrue result → annotations self.now ≡ [] }
+        ensures height { IsTrue result → height_of self.now ≡ 1 }
     {
         self.children.is_empty() && self.annotations.is_empty()
     }
@@ -274,7 +276,27 @@ impl Term {
 
     /// An equal term.
     #[cycle(try_clone)]
+    #[inline(always)]
     pub fn try_clone(&self) -> Result<Term, NoMemory>
+        ensures { IfOk result (λ term. term ≡ self.now) }
+    {
+        if !self.is_leaf() {
+            // the result of a call lies in memory: it is moved, so that a leaf needn't
+            let copy = self.clone_with_lists()?;
+            return Ok(copy);
+        }
+        let alloc = *self.children.allocator();
+        Ok(Term {
+            node: self.node.try_clone()?,
+            children: Vec::new(alloc),
+            annotations: Vec::new(alloc),
+        })
+    }
+
+    // `try_clone` of a term that has children or annotations.
+    #[cycle(try_clone)]
+    #[inline(never)]
+    fn clone_with_lists(&self) -> Result<Term, NoMemory>
         ensures { IfOk result (λ term. term ≡ self.now) }
     {
         let alloc = *self.children.allocator();
@@ -386,7 +408,8 @@ fn clone_all(alloc: Global, terms: &[Term]) -> Result<Vec<Term>, NoMemory>
 {
     let mut all = Vec::with_capacity(alloc, terms.len())?;
     for term in terms {
-        all.push(term.try_clone()?)?;
+        all.reserve(1)?;
+        all.push_reserved(term.try_clone()?);
     }
     Ok(all)
 }
