@@ -13,9 +13,10 @@ ghost use Rattle.strategy_machine.specs.inside.Turning.{GoesIn, EndFalls, Descen
 ghost use Rattle.strategy_machine.specs.inside.Taking.{Takes, TakeFalls};
 ghost use Rattle.strategy_syntax.specs.Resolved.{all};
 
-use crate::frames::{Acts, Frame, Turned, Walk, drop_part, drop_parts};
+use crate::frames::{Acts, Turned, Walk, drop_part, drop_parts};
 use crate::lists::end_each;
 use crate::machine::Machine;
+use crate::stack::Slot;
 use std::alloc::Global;
 use std::mem;
 use strategy_syntax::ResolvedStrategy;
@@ -264,11 +265,11 @@ pub(crate) fn go_in<'t>(
         return Ok(m.fails());
     };
     let walk = descend(m, child, parts, index)?;
-    m.frames.wait(Frame::Each {
+    let slot = Slot::Each {
         acts: others,
         scope,
-        walk,
-    })?;
+    };
+    m.frames.wait_with_walk(slot, walk)?;
     Ok(m.begins(strategy, scope))
 }
 
@@ -313,11 +314,11 @@ fn go_down<'t>(
     };
     let parts = mem::replace(&mut m.parts, Vec::new(alloc));
     let walk = descend(m, child, parts, index)?;
-    m.frames.wait(Frame::Each {
+    let slot = Slot::Each {
         acts: others,
         scope,
-        walk,
-    })?;
+    };
+    m.frames.wait_with_walk(slot, walk)?;
     Ok(m.begins(strategy, scope))
 }
 
@@ -338,12 +339,12 @@ pub(crate) fn try_on<'t>(
     };
     let mark = m.cells.mark();
     let walk = descend(m, child, Vec::new(alloc), index)?;
-    m.frames.wait(Frame::Leftmost {
+    let slot = Slot::Leftmost {
         strategy,
         scope,
-        walk,
         mark,
-    })?;
+    };
+    m.frames.wait_with_walk(slot, walk)?;
     Ok(m.begins(strategy, scope))
 }
 
@@ -370,12 +371,12 @@ pub(crate) fn go_over<'t>(
     let mark = m.cells.mark();
     let parts = mem::replace(&mut m.parts, Vec::new(alloc));
     let walk = descend(m, child, parts, index)?;
-    m.frames.wait(Frame::Those {
+    let slot = Slot::Those {
         strategy,
         scope,
-        walk,
         mark,
         any,
-    })?;
+    };
+    m.frames.wait_with_walk(slot, walk)?;
     Ok(m.begins(strategy, scope))
 }

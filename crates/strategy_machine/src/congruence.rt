@@ -11,8 +11,9 @@ ghost use Rattle.strategy_machine.specs.Leading.{Has};
 ghost use Rattle.strategy_machine.specs.inside.Taking.{Takes, TakeFalls};
 
 use crate::children::{descend, go_on};
-use crate::frames::{Acts, Frame, Turned};
+use crate::frames::{Acts, Turned};
 use crate::machine::Machine;
+use crate::stack::Slot;
 use std::alloc::Global;
 use strategy_syntax::{Head, ResolvedStrategy};
 use term_core::{Kind, NoMemory};
@@ -75,7 +76,7 @@ pub(crate) fn take_tail<'t>(
     if count == 1 {
         return take_head(alloc, m, &strategies[0], tail, scope);
     }
-    m.frames.wait(Frame::Tail { tail, scope, count })?;
+    m.frames.wait(Slot::Tail { tail, scope, count })?;
     m.parts.clear();
     go_on(alloc, m, Acts::List(strategies), scope, 0)
 }
@@ -97,7 +98,7 @@ fn take_head<'t>(
         return Ok(m.fails());
     };
     let walk = descend(m, child, Vec::new(alloc), 0)?;
-    m.frames.wait(Frame::Head { tail, scope, walk })?;
+    m.frames.wait_with_walk(Slot::Head { tail, scope }, walk)?;
     Ok(m.begins(first, scope))
 }
 

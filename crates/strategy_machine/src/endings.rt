@@ -7,7 +7,6 @@ ghost use Rattle.std.specs.Prelude.{◌<◌, ◌≤◌, ◌-◌, ◌^◌, length
 ghost use Rattle.strategy_machine.specs.Table.{scopes as scopes_of};
 ghost use Rattle.strategy_machine.specs.inside.Endings.{LeavesScopes, LeavesCells, ScopesEnd, CellsEnd};
 
-use crate::frames::Frame;
 use crate::machine::Machine;
 use crate::stack::{Frames, Slot};
 use term_core::NoMemory;
@@ -54,7 +53,7 @@ pub(crate) fn end_scopes<'t>(m: &mut Machine<'t>, scope: usize) -> Result<(), No
             Ok(())
         }
         None => {
-            m.frames.wait(Frame::Leave { scopes })?;
+            m.frames.wait(Slot::Leave { scopes })?;
             Ok(())
         }
     }
@@ -74,7 +73,7 @@ pub(crate) fn end_cells<'t>(m: &mut Machine<'t>, scope: usize) -> Result<(), NoM
             Ok(())
         }
         None => {
-            m.frames.wait(Frame::Cut { cells, scopes })?;
+            m.frames.wait(Slot::Cut { cells, scopes })?;
             Ok(())
         }
     }

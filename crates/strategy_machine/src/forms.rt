@@ -12,9 +12,10 @@ ghost use Rattle.strategy_machine.specs.inside.Taking.{Takes, TakeFalls, Replace
 use crate::alternatives::after_rules;
 use crate::children::go_in;
 use crate::choices::{rewrite_or, rule_of, rule_or};
-use crate::frames::{Acts, Frame, Turned, drop_value, put};
+use crate::frames::{Acts, Turned, drop_value, put};
 use crate::heads::{MOST, left_by_failure};
 use crate::machine::{Host, InTable, Machine};
+use crate::stack::{Slot, Start};
 use prim_core::Meaning;
 use std::alloc::Global;
 use strategy_syntax::{ResolvedForm as Form, ResolvedPattern, ResolvedStrategy};
@@ -112,7 +113,7 @@ pub(crate) fn take_seq<'t>(
         Form::Param(name) => named_first(m, *name, second, scope),
         Form::All(inner) => all_first(alloc, m, inner, second, scope),
         _ => {
-            m.frames.wait(Frame::Then {
+            m.frames.wait(Slot::Then {
                 strategy: second,
                 scope,
             })?;
@@ -147,7 +148,7 @@ fn named_first<'t>(
         m.steps -= 1;
         return Ok(m.begins(second, scope));
     }
-    m.frames.wait(Frame::Then {
+    m.frames.wait(Slot::Then {
         strategy: second,
         scope,
     })?;
@@ -171,7 +172,7 @@ fn all_first<'t>(
     }
     m.steps -= 1;
     if m.part.child_count() != 0 {
-        m.frames.wait(Frame::Then {
+        m.frames.wait(Slot::Then {
             strategy: second,
             scope,
         })?;
@@ -257,14 +258,14 @@ pub(crate) fn take_guard<'t, M: Meaning>(
     let start = m.part.try_clone()?;
     let mark = m.cells.mark();
     let edits = m.trail.count;
-    m.frames.wait(Frame::Choose {
+    let slot = Slot::Choose {
         then: second,
         otherwise: other,
         scope,
-        start,
-        edits,
         mark,
-    })?;
+    };
+    m.frames
+        .wait_with_start(slot, Start { part: start, edits })?;
     Ok(m.begins(first, scope))
 }
 
@@ -279,6 +280,7 @@ pub(crate) fn take_test<'t>(
 {
     let start = m.part.try_clone()?;
     let edits = m.trail.count;
-    m.frames.wait(Frame::Restore { start, edits })?;
+    let start = Start { part: start, edits };
+    m.frames.wait_with_start(Slot::Restore, start)?;
     Ok(m.begins(inner, scope))
 }

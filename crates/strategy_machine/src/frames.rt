@@ -30,7 +30,8 @@ pub struct Walk<'t> {
 }
 
 /// Continuations: each waits for the answer of the focus. Scopes are indices into the table; a
-/// count of edits is the one from when the frame was made.
+/// count of edits is the one from when the frame was made. Contracts speak of frames; the machine
+/// keeps each as a slot, with what is large beside it.
 #[derive(Drop)]
 pub enum Frame<'t> {
     /// The second strategy of a sequence.

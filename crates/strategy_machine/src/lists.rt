@@ -9,13 +9,14 @@ ghost use Rattle.term_changes.specs.Standing.{Standing, standing_tree};
 ghost use Rattle.strategy_machine.specs.Hands.{Done};
 ghost use Rattle.strategy_machine.specs.Leading.{PartsStand, parts_now, all_parts, node_with};
 ghost use Rattle.strategy_machine.specs.Frames.{first_part};
+ghost use Rattle.strategy_machine.specs.declared.frames.Frame.{Frame};
 ghost use Rattle.strategy_machine.specs.Turns.{Turn, Falls, Holds};
 ghost use Rattle.strategy_machine.specs.inside.Slots.{EndsWith};
 ghost use Rattle.strategy_machine.specs.inside.Turning.{Gives, GiveFalls, EndFalls};
 
 use crate::children::finish;
 use crate::forms::replace;
-use crate::frames::{Frame, Turned, Walk, drop_changed, drop_part, drop_parts, drop_value};
+use crate::frames::{Turned, Walk, drop_changed, drop_part, drop_parts, drop_value};
 use crate::heads::is_list as is_list_part;
 use crate::machine::Machine;
 use crate::stack::{First, Frames, Front, Slot};
@@ -97,12 +98,9 @@ fn begin_tail<'t>(
     let node = mem::replace(&mut m.part, Part::new(rest));
     let parts = mem::replace(&mut m.parts, Vec::new(alloc));
     let edits = m.trail.count;
-    m.frames.wait(Frame::Rest {
-        node,
-        parts,
-        count,
-        edits,
-    })?;
+    let front = Front { node, parts };
+    m.frames
+        .wait_with_front(Slot::Rest { count, edits }, front)?;
     Ok(m.begins(tail, scope))
 }
 
@@ -218,11 +216,8 @@ pub(crate) fn give_head<'t>(
     let child = mem::replace(&mut m.part, Part::new(rest));
     let now = m.trail.count;
     let first = where_changed(child, now != edits);
-    m.frames.wait(Frame::After {
-        node,
-        first,
-        edits: now,
-    })?;
+    let first = First { node, part: first };
+    m.frames.wait_with_first(Slot::After { edits: now }, first)?;
     Ok(m.begins(tail, scope))
 }
 

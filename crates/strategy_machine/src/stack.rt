@@ -11,7 +11,7 @@ ghost use Rattle.strategy_machine.specs.inside.Walks.{LastGoesOn, LastStepsOver}
 
 use crate::children::first_act;
 use crate::fail::pass;
-use crate::frames::{Acts, Frame, Walk, drop_changed, drop_part, drop_parts, drop_walk};
+use crate::frames::{Acts, Walk, drop_changed, drop_part, drop_parts, drop_walk};
 use crate::give::to_next;
 use std::alloc::Global;
 use std::marker::Model;
@@ -145,87 +145,9 @@ impl<'t> Frames<'t> {
         self.slots.len()
     }
 
-    /// Adds an innermost frame.
+    /// Adds an innermost frame, which needs nothing but its slot.
     #[inline(always)]
-    pub(crate) fn wait(&mut self, frame: Frame<'t>) -> Result<(), NoMemory>
-        ensures items { OnOk result (self.new ≡ self.old ++ frame.entry ∷ []) }
-        ensures len { OnOk result (length self.new ≡ length self.old + 1) }
-    {
-        match frame {
-            Frame::Then { strategy, scope } => self.wait_alone(Slot::Then { strategy, scope }),
-            Frame::Choose {
-                then,
-                otherwise,
-                scope,
-                start,
-                edits,
-                mark,
-            } => self.wait_with_start(
-                Slot::Choose {
-                    then,
-                    otherwise,
-                    scope,
-                    mark,
-                },
-                Start { part: start, edits },
-            ),
-            Frame::Restore { start, edits } => {
-                self.wait_with_start(Slot::Restore, Start { part: start, edits })
-            }
-            Frame::Each { acts, scope, walk } => {
-                self.wait_with_walk(Slot::Each { acts, scope }, walk)
-            }
-            Frame::Leftmost {
-                strategy,
-                scope,
-                walk,
-                mark,
-            } => self.wait_with_walk(
-                Slot::Leftmost {
-                    strategy,
-                    scope,
-                    mark,
-                },
-                walk,
-            ),
-            Frame::Those {
-                strategy,
-                scope,
-                walk,
-                mark,
-                any,
-            } => self.wait_with_walk(
-                Slot::Those {
-                    strategy,
-                    scope,
-                    mark,
-                    any,
-                },
-                walk,
-            ),
-            Frame::Tail { tail, scope, count } => {
-                self.wait_alone(Slot::Tail { tail, scope, count })
-            }
-            Frame::Rest {
-                node,
-                parts,
-                count,
-                edits,
-            } => self.wait_with_front(Slot::Rest { count, edits }, Front { node, parts }),
-            Frame::Head { tail, scope, walk } => {
-                self.wait_with_walk(Slot::Head { tail, scope }, walk)
-            }
-            Frame::After { node, first, edits } => {
-                self.wait_with_first(Slot::After { edits }, First { node, part: first })
-            }
-            Frame::Leave { scopes } => self.wait_alone(Slot::Leave { scopes }),
-            Frame::Cut { cells, scopes } => self.wait_alone(Slot::Cut { cells, scopes }),
-        }
-    }
-
-    // A slot that needs nothing else.
-    #[inline(always)]
-    fn wait_alone(&mut self, slot: Slot<'t>) -> Result<(), NoMemory>
+    pub(crate) fn wait(&mut self, slot: Slot<'t>) -> Result<(), NoMemory>
         requires { is_alone slot ≡ true }
         ensures items { OnOk result (self.new ≡ self.old ++ alone slot.entry) }
         ensures len { OnOk result (length self.new ≡ length self.old + 1) }
@@ -235,9 +157,10 @@ impl<'t> Frames<'t> {
         Ok(())
     }
 
-    // Each stack grows before either is written, so a refused growth changes nothing.
+    /// Adds an innermost frame with a walk. Each stack grows before either is written, so a refused
+    /// growth changes nothing; so too in the functions below.
     #[inline(always)]
-    fn wait_with_walk(&mut self, slot: Slot<'t>, walk: Walk<'t>) -> Result<(), NoMemory>
+    pub(crate) fn wait_with_walk(&mut self, slot: Slot<'t>, walk: Walk<'t>) -> Result<(), NoMemory>
         requires { has_walk slot ≡ true }
         ensures items { OnOk result (self.new ≡ self.old ++ with_walk slot.entry walk.entry) }
         ensures len { OnOk result (length self.new ≡ length self.old + 1) }
@@ -251,8 +174,13 @@ impl<'t> Frames<'t> {
         Err(NoMemory)
     }
 
+    /// Adds an innermost frame with a start.
     #[inline(always)]
-    fn wait_with_start(&mut self, slot: Slot<'t>, start: Start<'t>) -> Result<(), NoMemory>
+    pub(crate) fn wait_with_start(
+        &mut self,
+        slot: Slot<'t>,
+        start: Start<'t>,
+    ) -> Result<(), NoMemory>
         requires { has_start slot ≡ true }
         ensures items { OnOk result (self.new ≡ self.old ++ with_start slot.entry start.entry) }
         ensures len { OnOk result (length self.new ≡ length self.old + 1) }
@@ -266,8 +194,13 @@ impl<'t> Frames<'t> {
         Err(NoMemory)
     }
 
+    /// Adds an innermost frame with the front of a list.
     #[inline(always)]
-    fn wait_with_front(&mut self, slot: Slot<'t>, front: Front<'t>) -> Result<(), NoMemory>
+    pub(crate) fn wait_with_front(
+        &mut self,
+        slot: Slot<'t>,
+        front: Front<'t>,
+    ) -> Result<(), NoMemory>
         requires { has_front slot ≡ true }
         ensures items { OnOk result (self.new ≡ self.old ++ with_front slot.entry front.entry) }
         ensures len { OnOk result (length self.new ≡ length self.old + 1) }
@@ -283,8 +216,13 @@ impl<'t> Frames<'t> {
         Err(NoMemory)
     }
 
+    /// Adds an innermost frame with the first element of a list.
     #[inline(always)]
-    fn wait_with_first(&mut self, slot: Slot<'t>, first: First<'t>) -> Result<(), NoMemory>
+    pub(crate) fn wait_with_first(
+        &mut self,
+        slot: Slot<'t>,
+        first: First<'t>,
+    ) -> Result<(), NoMemory>
         requires { has_first slot ≡ true }
         ensures items { OnOk result (self.new ≡ self.old ++ with_first slot.entry first.entry) }
         ensures len { OnOk result (length self.new ≡ length self.old + 1) }

@@ -12,6 +12,6 @@ returns-in_default-clause-ok c = λ W acts e. record { keeps = λ sub whole h. c
 
 pub returns-clause-ok : goal.returns-clause-ok
 returns-clause-ok c = λ W acts e. record {
-  keeps = λ sub whole h. c.begins.ensures.keeps W sub whole (went_down W sub whole _ c.descend.new.m c.in-Some.child c.new-parts.result c.new-parts.result c.args.index c.in_ok-walk.walk (λ w. Each c.args.others c.args.scope w) c.wait.new.self c.args.strategy c.args.scope c.in_ok-walk.ensures.down refl c.in_ok-wait.ensures.items
+  keeps = λ sub whole h. c.begins.ensures.keeps W sub whole (went_down W sub whole _ c.descend.new.m c.in-Some.child c.new-parts.result c.new-parts.result c.args.index c.in_ok-walk.walk (λ w. Each c.args.others c.args.scope w) c.wait_with_walk.new.self c.args.strategy c.args.scope c.in_ok-walk.ensures.down refl c.in_ok-wait_with_walk.ensures.items
       (each_begins W sub whole (state_of c.args.m.now) acts c.args.others c.args.strategy c.args.scope c.args.index _ c.args.m.now.part c.in-Some.child c.new-parts.result refl e (ap (λ ps. slice_get (parts_now c.args.m.now.part (all_parts c.args.m.now.part ps)) c.args.index) c.new-parts.ensures.items ∙ sym c.in_ok-child.ensures ∙ c.in-Some.is) (h c.new-parts.result c.new-parts.ensures.items)));
 }

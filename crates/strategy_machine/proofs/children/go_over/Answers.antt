@@ -17,7 +17,7 @@ returns-in_default-clause-ok c = λ W. record { keeps = λ sub whole h. c.gives.
 
 pub returns-clause-ok : goal.returns-clause-ok
 returns-clause-ok c = λ W. record {
-  keeps = λ sub whole h. c.begins.ensures.keeps W sub whole (went_down W sub whole _ c.descend.new.m c.in-Some.child c.replace-parts.result c.args.m.now.parts c.args.index c.in_ok-walk.walk (λ w. Those c.args.strategy c.args.scope w c.mark-mark.result c.args.any) c.wait.new.self c.args.strategy c.args.scope c.in_ok-walk.ensures.down c.replace-parts.ensures.value c.in_ok-wait.ensures.items
+  keeps = λ sub whole h. c.begins.ensures.keeps W sub whole (went_down W sub whole _ c.descend.new.m c.in-Some.child c.replace-parts.result c.args.m.now.parts c.args.index c.in_ok-walk.walk (λ w. Those c.args.strategy c.args.scope w c.mark-mark.result c.args.any) c.wait_with_walk.new.self c.args.strategy c.args.scope c.in_ok-walk.ensures.down c.replace-parts.ensures.value c.in_ok-wait_with_walk.ensures.items
       (subst (λ mark. HoldsIn W sub whole (below (state_of c.args.m.now) (Those c.args.strategy c.args.scope (walk_at c.args.m.now.part c.args.m.now.parts c.args.index (state_of c.args.m.now)) mark c.args.any)) (Begin c.args.strategy c.args.scope c.in-Some.child)) (sym c.mark-mark.ensures.result)
       (those_begin W sub whole (state_of c.args.m.now) c.args.strategy c.args.scope c.args.index c.args.m.now.part c.in-Some.child c.args.any c.args.m.now.parts (ap (kept c.args.m.now.cells) (sym c.mark-mark.ensures.result) ∙ c.mark-mark.ensures.kept) (ap (λ ps. slice_get (parts_now c.args.m.now.part (all_parts c.args.m.now.part ps)) c.args.index) (sym c.deref.ensures.value) ∙ sym c.in_ok-child.ensures ∙ c.in-Some.is) h)));
 }

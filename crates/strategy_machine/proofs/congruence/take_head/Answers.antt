@@ -10,6 +10,6 @@ returns-in_default-clause-ok c = λ W. record { keeps = λ sub whole h. c.fails.
 
 pub returns-clause-ok : goal.returns-clause-ok
 returns-clause-ok c = λ W. record {
-  keeps = λ sub whole h. c.begins.ensures.keeps W sub whole (went_down W sub whole _ c.descend.new.m c.in-Some.child c.new.result c.new.result 0 c.in_ok-walk.walk (λ w. Head c.args.tail c.args.scope w) c.wait.new.self c.args.first c.args.scope c.in_ok-walk.ensures.down refl c.in_ok-wait.ensures.items
+  keeps = λ sub whole h. c.begins.ensures.keeps W sub whole (went_down W sub whole _ c.descend.new.m c.in-Some.child c.new.result c.new.result 0 c.in_ok-walk.walk (λ w. Head c.args.tail c.args.scope w) c.wait_with_walk.new.self c.args.first c.args.scope c.in_ok-walk.ensures.down refl c.in_ok-wait_with_walk.ensures.items
       (head_begins W sub whole (state_of c.args.m.now) c.args.first c.args.tail c.args.scope c.args.m.now.part c.in-Some.child c.new.result c.new.ensures.items c.requires (sym c.in_ok-child.ensures ∙ c.in-Some.is) h));
 }

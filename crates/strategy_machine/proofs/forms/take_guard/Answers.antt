@@ -22,7 +22,7 @@ returns-in-Build-clause-ok g c =
 
 pub returns-clause-ok : goal.returns-clause-ok
 returns-clause-ok g c = record {
-  keeps = λ sub whole h. c.begins.ensures.keeps _ sub whole (with_frames _ sub whole (state_of c.args.m.now) _ _ _ (pushed _ _ _ c.in_ok-wait.ensures.items ∙ (λ i. Choose c.args.second c.args.other c.args.scope (c.in_ok-start.ensures i) c.args.m.now.trail.count (c.mark-mark.ensures.result i) ∷ reverse c.args.m.now.frames))
+  keeps = λ sub whole h. c.begins.ensures.keeps _ sub whole (with_frames _ sub whole (state_of c.args.m.now) _ _ _ (pushed _ _ _ c.in_ok-wait_with_start.ensures.items ∙ (λ i. Choose c.args.second c.args.other c.args.scope (c.in_ok-start.ensures i) c.args.m.now.trail.count (c.mark-mark.ensures.result i) ∷ reverse c.args.m.now.frames))
       (take_choice _ sub whole (state_of c.args.m.now) c.args.first c.args.second c.args.other c.args.scope c.args.m.now.part (ap (kept c.args.m.now.cells) (sym c.mark-mark.ensures.result) ∙ c.mark-mark.ensures.kept) h));
 }
 

@@ -1,5 +1,5 @@
 use Rattle.strategy_machine.proofs.SlotLemmas.{alone_more, longer_fits, added, added_length}
-use Rattle.strategy_machine.proofs.stack.Frames.wait_alone.Goals as goal
+use Rattle.strategy_machine.proofs.stack.Frames.wait.Goals as goal
 
 pub invariant_of-self-2 : goal.invariant_of-self-2
 invariant_of-self-2 c = let i = c.self.inside in longer_fits
