@@ -1,7 +1,7 @@
 -- Slots beside the stacks of what is large: adding and taking off the innermost frame.
-use Rattle.std.proofs.Common.{◌≡◌, ◌<◌, ℕ, ◌+◌, ◌-◌, suc, Bool, true, false, cond, List, [], ◌∷◌, ◌++◌, length, reverse, slice_get, slice_set, get_or, refl, sym, ap, ◌∙◌, subst, arith, Some, None, Bor}
+use Rattle.std.proofs.Common.{◌≡◌, ◌<◌, ℕ, ◌+◌, ◌-◌, suc, Bool, true, false, cond, List, [], ◌∷◌, ◌++◌, length, map, reverse, slice_get, slice_set, get_or, refl, sym, ap, ◌∙◌, subst, arith, Some, None, Bor}
 use Rattle.std.specs.declared.option.Option.{Option}
-use Rattle.std.proofs.lemmas.List.{append-nil, length-append, same_from_push}
+use Rattle.std.proofs.lemmas.List.{append-nil, length-append, nil_from_length, same_from_push}
 use Rattle.std.proofs.Math.Seq.{set-append_seam, get_or-append_seam}
 use Rattle.strategy_machine.specs.declared.frames.Acts.{Acts}
 use Rattle.strategy_syntax.specs.Resolved.{ResolvedStrategy}
@@ -16,10 +16,6 @@ use Rattle.strategy_machine.specs.declared.stack.First.{First}
 use Rattle.strategy_machine.proofs.OpenLemmas.{pushed}
 use Rattle.strategy_machine.specs.inside.Slots.{has_walk, has_start, has_front, has_first, is_alone, frames_of, count, Fits, slot_of, EndsWith, EndsIn}
 
-pub nil_of : {A : Type 0} (xs : List A) → length xs ≡ 0 → xs ≡ []
-nil_of [] e = refl
-nil_of (x ∷ xs) e = absurd (omega (arith, e))
-
 count-append : (p : Slot → Bool) (xs ys : List Slot) → count p (xs ++ ys) ≡ count p xs + count p ys
 count-append p [] ys = omega arith
 count-append p (x ∷ xs) ys = by _ _ _ (p x) (count-append p xs ys) where
@@ -29,74 +25,85 @@ count-append p (x ∷ xs) ys = by _ _ _ (p x) (count-append p xs ys) where
 
 -- ---- several slots after others
 
+-- the child that a frame visits
+abbrev pub step_of : Frame → List ℕ
+step_of (frames.Each acts n w) = w.index ∷ []
+step_of (frames.Leftmost s n w m) = w.index ∷ []
+step_of (frames.Those s n w m any) = w.index ∷ []
+step_of (frames.Head s n w) = w.index ∷ []
+step_of f = []
+
+-- The frame of the first slot, and what that slot leaves of each stack.
+pub record Outermost (x : Slot) (xs : List Slot) (ws : List Walk) (ss : List Start) (fs : List Front) (ks : List First) : Type 0 where
+  pub frame : Frame
+  pub walks : List Walk
+  pub starts : List Start
+  pub fronts : List Front
+  pub firsts : List First
+  pub fits : Fits xs walks starts fronts firsts
+  pub is : frames_of (x ∷ xs) ws ss fs ks ≡ frame ∷ frames_of xs walks starts fronts firsts
+  pub before : (ys : List Slot) (vs : List Walk) (ts : List Start) (gs : List Front) (ls : List First)
+      → frames_of ((x ∷ xs) ++ ys) (ws ++ vs) (ss ++ ts) (fs ++ gs) (ks ++ ls) ≡ frame ∷ frames_of (xs ++ ys) (walks ++ vs) (starts ++ ts) (fronts ++ gs) (firsts ++ ls)
+  pub slot : slot_of frame ≡ x
+  pub steps : map (λ w. w.index) ws ≡ step_of frame ++ map (λ w. w.index) walks
+
+pub outermost : (x : Slot) (xs : List Slot) (ws : List Walk) (ss : List Start) (fs : List Front) (ks : List First) → Fits (x ∷ xs) ws ss fs ks → Outermost x xs ws ss fs ks
+outermost (Then s n) xs ws ss fs ks h =
+    record { frame = frames.Then s n; walks = ws; starts = ss; fronts = fs; firsts = ks; fits = record { walks = h.walks; starts = h.starts; fronts = h.fronts; firsts = h.firsts }; is = refl; before = λ ys vs ts gs ls. refl; slot = refl; steps = refl }
+outermost (Choose s r n m) xs ws [] fs ks h = absurd (omega (arith, h.starts))
+outermost (Choose s r n m) xs ws (p ∷ ss) fs ks h =
+    record { frame = frames.Choose s r n p.part p.edits m; walks = ws; starts = ss; fronts = fs; firsts = ks; fits = record { walks = h.walks; starts = omega (arith, h.starts); fronts = h.fronts; firsts = h.firsts }; is = refl; before = λ ys vs ts gs ls. refl; slot = refl; steps = refl }
+outermost Restore xs ws [] fs ks h = absurd (omega (arith, h.starts))
+outermost Restore xs ws (p ∷ ss) fs ks h =
+    record { frame = frames.Restore p.part p.edits; walks = ws; starts = ss; fronts = fs; firsts = ks; fits = record { walks = h.walks; starts = omega (arith, h.starts); fronts = h.fronts; firsts = h.firsts }; is = refl; before = λ ys vs ts gs ls. refl; slot = refl; steps = refl }
+outermost (Each acts n) xs [] ss fs ks h = absurd (omega (arith, h.walks))
+outermost (Each acts n) xs (w ∷ ws) ss fs ks h =
+    record { frame = frames.Each acts n w; walks = ws; starts = ss; fronts = fs; firsts = ks; fits = record { walks = omega (arith, h.walks); starts = h.starts; fronts = h.fronts; firsts = h.firsts }; is = refl; before = λ ys vs ts gs ls. refl; slot = refl; steps = refl }
+outermost (Leftmost s n m) xs [] ss fs ks h = absurd (omega (arith, h.walks))
+outermost (Leftmost s n m) xs (w ∷ ws) ss fs ks h =
+    record { frame = frames.Leftmost s n w m; walks = ws; starts = ss; fronts = fs; firsts = ks; fits = record { walks = omega (arith, h.walks); starts = h.starts; fronts = h.fronts; firsts = h.firsts }; is = refl; before = λ ys vs ts gs ls. refl; slot = refl; steps = refl }
+outermost (Those s n m any) xs [] ss fs ks h = absurd (omega (arith, h.walks))
+outermost (Those s n m any) xs (w ∷ ws) ss fs ks h =
+    record { frame = frames.Those s n w m any; walks = ws; starts = ss; fronts = fs; firsts = ks; fits = record { walks = omega (arith, h.walks); starts = h.starts; fronts = h.fronts; firsts = h.firsts }; is = refl; before = λ ys vs ts gs ls. refl; slot = refl; steps = refl }
+outermost (Tail s n k) xs ws ss fs ks h =
+    record { frame = frames.Tail s n k; walks = ws; starts = ss; fronts = fs; firsts = ks; fits = record { walks = h.walks; starts = h.starts; fronts = h.fronts; firsts = h.firsts }; is = refl; before = λ ys vs ts gs ls. refl; slot = refl; steps = refl }
+outermost (Rest n k) xs ws ss [] ks h = absurd (omega (arith, h.fronts))
+outermost (Rest n k) xs ws ss (f ∷ fs) ks h =
+    record { frame = frames.Rest f.node f.parts n k; walks = ws; starts = ss; fronts = fs; firsts = ks; fits = record { walks = h.walks; starts = h.starts; fronts = omega (arith, h.fronts); firsts = h.firsts }; is = refl; before = λ ys vs ts gs ls. refl; slot = refl; steps = refl }
+outermost (Head s n) xs [] ss fs ks h = absurd (omega (arith, h.walks))
+outermost (Head s n) xs (w ∷ ws) ss fs ks h =
+    record { frame = frames.Head s n w; walks = ws; starts = ss; fronts = fs; firsts = ks; fits = record { walks = omega (arith, h.walks); starts = h.starts; fronts = h.fronts; firsts = h.firsts }; is = refl; before = λ ys vs ts gs ls. refl; slot = refl; steps = refl }
+outermost (After k) xs ws ss fs [] h = absurd (omega (arith, h.firsts))
+outermost (After k) xs ws ss fs (a ∷ ks) h =
+    record { frame = frames.After a.node a.part k; walks = ws; starts = ss; fronts = fs; firsts = ks; fits = record { walks = h.walks; starts = h.starts; fronts = h.fronts; firsts = omega (arith, h.firsts) }; is = refl; before = λ ys vs ts gs ls. refl; slot = refl; steps = refl }
+outermost (Leave n) xs ws ss fs ks h =
+    record { frame = frames.Leave n; walks = ws; starts = ss; fronts = fs; firsts = ks; fits = record { walks = h.walks; starts = h.starts; fronts = h.fronts; firsts = h.firsts }; is = refl; before = λ ys vs ts gs ls. refl; slot = refl; steps = refl }
+outermost (Cut n k) xs ws ss fs ks h =
+    record { frame = frames.Cut n k; walks = ws; starts = ss; fronts = fs; firsts = ks; fits = record { walks = h.walks; starts = h.starts; fronts = h.fronts; firsts = h.firsts }; is = refl; before = λ ys vs ts gs ls. refl; slot = refl; steps = refl }
+
 frames-append : (xs ys : List Slot) (ws vs : List Walk) (ss ts : List Start) (fs gs : List Front) (ks ls : List First) → Fits xs ws ss fs ks
     → frames_of (xs ++ ys) (ws ++ vs) (ss ++ ts) (fs ++ gs) (ks ++ ls) ≡ frames_of xs ws ss fs ks ++ frames_of ys vs ts gs ls
 frames-append [] ys ws vs ss ts fs gs ks ls h =
-    (λ i. frames_of ys (nil_of ws h.walks i ++ vs) (nil_of ss h.starts i ++ ts) (nil_of fs h.fronts i ++ gs) (nil_of ks h.firsts i ++ ls))
-frames-append (Then s n ∷ xs) ys ws vs ss ts fs gs ks ls h =
-    ap (λ r. frames.Then s n ∷ r) (frames-append xs ys ws vs ss ts fs gs ks ls (record { walks = h.walks; starts = h.starts; fronts = h.fronts; firsts = h.firsts }))
-frames-append (Choose s r n m ∷ xs) ys ws vs [] ts fs gs ks ls h = absurd (omega (arith, h.starts))
-frames-append (Choose s r n m ∷ xs) ys ws vs (p ∷ ss) ts fs gs ks ls h =
-    ap (λ l. frames.Choose s r n p.part p.edits m ∷ l)
-    (frames-append xs ys ws vs ss ts fs gs ks ls (record { walks = h.walks; starts = omega (arith, h.starts); fronts = h.fronts; firsts = h.firsts }))
-frames-append (Restore ∷ xs) ys ws vs [] ts fs gs ks ls h = absurd (omega (arith, h.starts))
-frames-append (Restore ∷ xs) ys ws vs (p ∷ ss) ts fs gs ks ls h =
-    ap (λ l. frames.Restore p.part p.edits ∷ l)
-    (frames-append xs ys ws vs ss ts fs gs ks ls (record { walks = h.walks; starts = omega (arith, h.starts); fronts = h.fronts; firsts = h.firsts }))
-frames-append (Each acts n ∷ xs) ys [] vs ss ts fs gs ks ls h = absurd (omega (arith, h.walks))
-frames-append (Each acts n ∷ xs) ys (w ∷ ws) vs ss ts fs gs ks ls h =
-    ap (λ l. frames.Each acts n w ∷ l)
-    (frames-append xs ys ws vs ss ts fs gs ks ls (record { walks = omega (arith, h.walks); starts = h.starts; fronts = h.fronts; firsts = h.firsts }))
-frames-append (Leftmost s n m ∷ xs) ys [] vs ss ts fs gs ks ls h = absurd (omega (arith, h.walks))
-frames-append (Leftmost s n m ∷ xs) ys (w ∷ ws) vs ss ts fs gs ks ls h =
-    ap (λ l. frames.Leftmost s n w m ∷ l)
-    (frames-append xs ys ws vs ss ts fs gs ks ls (record { walks = omega (arith, h.walks); starts = h.starts; fronts = h.fronts; firsts = h.firsts }))
-frames-append (Those s n m any ∷ xs) ys [] vs ss ts fs gs ks ls h = absurd (omega (arith, h.walks))
-frames-append (Those s n m any ∷ xs) ys (w ∷ ws) vs ss ts fs gs ks ls h =
-    ap (λ l. frames.Those s n w m any ∷ l)
-    (frames-append xs ys ws vs ss ts fs gs ks ls (record { walks = omega (arith, h.walks); starts = h.starts; fronts = h.fronts; firsts = h.firsts }))
-frames-append (Tail s n k ∷ xs) ys ws vs ss ts fs gs ks ls h =
-    ap (λ r. frames.Tail s n k ∷ r) (frames-append xs ys ws vs ss ts fs gs ks ls (record { walks = h.walks; starts = h.starts; fronts = h.fronts; firsts = h.firsts }))
-frames-append (Rest n k ∷ xs) ys ws vs ss ts [] gs ks ls h = absurd (omega (arith, h.fronts))
-frames-append (Rest n k ∷ xs) ys ws vs ss ts (f ∷ fs) gs ks ls h =
-    ap (λ l. frames.Rest f.node f.parts n k ∷ l)
-    (frames-append xs ys ws vs ss ts fs gs ks ls (record { walks = h.walks; starts = h.starts; fronts = omega (arith, h.fronts); firsts = h.firsts }))
-frames-append (Head s n ∷ xs) ys [] vs ss ts fs gs ks ls h = absurd (omega (arith, h.walks))
-frames-append (Head s n ∷ xs) ys (w ∷ ws) vs ss ts fs gs ks ls h =
-    ap (λ l. frames.Head s n w ∷ l)
-    (frames-append xs ys ws vs ss ts fs gs ks ls (record { walks = omega (arith, h.walks); starts = h.starts; fronts = h.fronts; firsts = h.firsts }))
-frames-append (After k ∷ xs) ys ws vs ss ts fs gs [] ls h = absurd (omega (arith, h.firsts))
-frames-append (After k ∷ xs) ys ws vs ss ts fs gs (a ∷ ks) ls h =
-    ap (λ l. frames.After a.node a.part k ∷ l)
-    (frames-append xs ys ws vs ss ts fs gs ks ls (record { walks = h.walks; starts = h.starts; fronts = h.fronts; firsts = omega (arith, h.firsts) }))
-frames-append (Leave n ∷ xs) ys ws vs ss ts fs gs ks ls h =
-    ap (λ r. frames.Leave n ∷ r) (frames-append xs ys ws vs ss ts fs gs ks ls (record { walks = h.walks; starts = h.starts; fronts = h.fronts; firsts = h.firsts }))
-frames-append (Cut n k ∷ xs) ys ws vs ss ts fs gs ks ls h =
-    ap (λ r. frames.Cut n k ∷ r) (frames-append xs ys ws vs ss ts fs gs ks ls (record { walks = h.walks; starts = h.starts; fronts = h.fronts; firsts = h.firsts }))
+    (λ i. frames_of ys (nil_from_length ws h.walks i ++ vs) (nil_from_length ss h.starts i ++ ts) (nil_from_length fs h.fronts i ++ gs) (nil_from_length ks h.firsts i ++ ls))
+frames-append (x ∷ xs) ys ws vs ss ts fs gs ks ls h =
+    let o = outermost x xs ws ss fs ks h in
+    o.before ys vs ts gs ls ∙ ap (λ (l : List Frame). o.frame ∷ l) (frames-append xs ys o.walks vs o.starts ts o.fronts gs o.firsts ls o.fits)
+    ∙ ap (λ (l : List Frame). l ++ frames_of ys vs ts gs ls) (sym o.is)
 
 -- there are as many frames as slots
 pub length-frames : (xs : List Slot) (ws : List Walk) (ss : List Start) (fs : List Front) (ks : List First) → Fits xs ws ss fs ks → length (frames_of xs ws ss fs ks) ≡ length xs
 length-frames [] ws ss fs ks h = refl
-length-frames (Then s n ∷ xs) ws ss fs ks h = ap suc (length-frames xs ws ss fs ks (record { walks = h.walks; starts = h.starts; fronts = h.fronts; firsts = h.firsts }))
-length-frames (Choose s r n m ∷ xs) ws [] fs ks h = absurd (omega (arith, h.starts))
-length-frames (Choose s r n m ∷ xs) ws (p ∷ ss) fs ks h = ap suc (length-frames xs ws ss fs ks (record { walks = h.walks; starts = omega (arith, h.starts); fronts = h.fronts; firsts = h.firsts }))
-length-frames (Restore ∷ xs) ws [] fs ks h = absurd (omega (arith, h.starts))
-length-frames (Restore ∷ xs) ws (p ∷ ss) fs ks h = ap suc (length-frames xs ws ss fs ks (record { walks = h.walks; starts = omega (arith, h.starts); fronts = h.fronts; firsts = h.firsts }))
-length-frames (Each acts n ∷ xs) [] ss fs ks h = absurd (omega (arith, h.walks))
-length-frames (Each acts n ∷ xs) (w ∷ ws) ss fs ks h = ap suc (length-frames xs ws ss fs ks (record { walks = omega (arith, h.walks); starts = h.starts; fronts = h.fronts; firsts = h.firsts }))
-length-frames (Leftmost s n m ∷ xs) [] ss fs ks h = absurd (omega (arith, h.walks))
-length-frames (Leftmost s n m ∷ xs) (w ∷ ws) ss fs ks h = ap suc (length-frames xs ws ss fs ks (record { walks = omega (arith, h.walks); starts = h.starts; fronts = h.fronts; firsts = h.firsts }))
-length-frames (Those s n m any ∷ xs) [] ss fs ks h = absurd (omega (arith, h.walks))
-length-frames (Those s n m any ∷ xs) (w ∷ ws) ss fs ks h = ap suc (length-frames xs ws ss fs ks (record { walks = omega (arith, h.walks); starts = h.starts; fronts = h.fronts; firsts = h.firsts }))
-length-frames (Tail s n k ∷ xs) ws ss fs ks h = ap suc (length-frames xs ws ss fs ks (record { walks = h.walks; starts = h.starts; fronts = h.fronts; firsts = h.firsts }))
-length-frames (Rest n k ∷ xs) ws ss [] ks h = absurd (omega (arith, h.fronts))
-length-frames (Rest n k ∷ xs) ws ss (f ∷ fs) ks h = ap suc (length-frames xs ws ss fs ks (record { walks = h.walks; starts = h.starts; fronts = omega (arith, h.fronts); firsts = h.firsts }))
-length-frames (Head s n ∷ xs) [] ss fs ks h = absurd (omega (arith, h.walks))
-length-frames (Head s n ∷ xs) (w ∷ ws) ss fs ks h = ap suc (length-frames xs ws ss fs ks (record { walks = omega (arith, h.walks); starts = h.starts; fronts = h.fronts; firsts = h.firsts }))
-length-frames (After k ∷ xs) ws ss fs [] h = absurd (omega (arith, h.firsts))
-length-frames (After k ∷ xs) ws ss fs (a ∷ ks) h = ap suc (length-frames xs ws ss fs ks (record { walks = h.walks; starts = h.starts; fronts = h.fronts; firsts = omega (arith, h.firsts) }))
-length-frames (Leave n ∷ xs) ws ss fs ks h = ap suc (length-frames xs ws ss fs ks (record { walks = h.walks; starts = h.starts; fronts = h.fronts; firsts = h.firsts }))
-length-frames (Cut n k ∷ xs) ws ss fs ks h = ap suc (length-frames xs ws ss fs ks (record { walks = h.walks; starts = h.starts; fronts = h.fronts; firsts = h.firsts }))
+length-frames (x ∷ xs) ws ss fs ks h =
+    let o = outermost x xs ws ss fs ks h in
+    ap (λ (l : List Frame). length l) o.is ∙ ap suc (length-frames xs o.walks o.starts o.fronts o.firsts o.fits)
+
+-- the innermost slot is that of the innermost frame
+pub slot_ends : (xs : List Slot) (x : Slot) (ws : List Walk) (ss : List Start) (fs : List Front) (ks : List First) → Fits (xs ++ x ∷ []) ws ss fs ks → EndsWith x (frames_of (xs ++ x ∷ []) ws ss fs ks)
+slot_ends [] x ws ss fs ks h = let o = outermost x [] ws ss fs ks h in ([], o.frame, o.is, o.slot)
+slot_ends (y ∷ xs) x ws ss fs ks h =
+    let o = outermost y (xs ++ x ∷ []) ws ss fs ks h in
+    let r = slot_ends xs x o.walks o.starts o.fronts o.firsts o.fits in
+    (o.frame ∷ r.0, r.1, o.is ∙ ap (λ (l : List Frame). o.frame ∷ l) r.2, r.3)
 
 counts-append : {A : Type 0} (p : Slot → Bool) (xs ys : List Slot) (cs bs : List A) → length cs ≡ count p xs → length bs ≡ count p ys → length (cs ++ bs) ≡ count p (xs ++ ys)
 counts-append p xs ys cs bs e f = omega (arith, e, f, length-append cs bs, count-append p xs ys)
@@ -227,57 +234,6 @@ last_of {A = A} (c ∷ cs) o e =
 
 some_left : (p : Slot → Bool) (xs : List Slot) (x : Slot) (n : ℕ) → p x ≡ true → n ≡ count p (xs ++ x ∷ []) → 0 < n
 some_left p xs x n e h = omega (arith, h, count-append p xs (x ∷ []), ap (λ (b : Bool). cond b (suc 0) 0) e)
-
-alone_longer : (xs : List Slot) (x : Slot) (ws : List Walk) (ss : List Start) (fs : List Front) (ks : List First) → is_alone x ≡ true → Longer xs (xs ++ x ∷ []) x ws ws [] ss ss [] fs fs [] ks ks []
-alone_longer xs x ws ss fs ks e = record { slots = refl; walks = sym (append-nil ws); starts = sym (append-nil ss); fronts = sym (append-nil fs); firsts = sym (append-nil ks); one = one_alone x e }
-
--- the innermost slot is that of the innermost frame
-pub slot_ends : (xs : List Slot) (x : Slot) (ws : List Walk) (ss : List Start) (fs : List Front) (ks : List First) → Fits (xs ++ x ∷ []) ws ss fs ks → EndsWith x (frames_of (xs ++ x ∷ []) ws ss fs ks)
-slot_ends xs x ws ss fs ks h = by x refl where
-  by_alone : is_alone x ≡ true → EndsWith x (frames_of (xs ++ x ∷ []) ws ss fs ks)
-  by_alone e = let l = alone_longer xs x ws ss fs ks e in longer_ends l (shorter_fits l h)
-
-  by_walk : has_walk x ≡ true → EndsWith x (frames_of (xs ++ x ∷ []) ws ss fs ks)
-  by_walk e =
-      let r = split_last ws (some_left has_walk xs x (length ws) e h.walks) in
-      let l : Longer xs (xs ++ x ∷ []) x r.0 ws (r.1 ∷ []) ss ss [] fs fs [] ks ks [] =
-      record { slots = refl; walks = r.2; starts = sym (append-nil ss); fronts = sym (append-nil fs); firsts = sym (append-nil ks); one = one_walk x r.1 e } in
-      longer_ends l (shorter_fits l h)
-
-  by_start : has_start x ≡ true → EndsWith x (frames_of (xs ++ x ∷ []) ws ss fs ks)
-  by_start e =
-      let r = split_last ss (some_left has_start xs x (length ss) e h.starts) in
-      let l : Longer xs (xs ++ x ∷ []) x ws ws [] r.0 ss (r.1 ∷ []) fs fs [] ks ks [] =
-      record { slots = refl; walks = sym (append-nil ws); starts = r.2; fronts = sym (append-nil fs); firsts = sym (append-nil ks); one = one_start x r.1 e } in
-      longer_ends l (shorter_fits l h)
-
-  by_front : has_front x ≡ true → EndsWith x (frames_of (xs ++ x ∷ []) ws ss fs ks)
-  by_front e =
-      let r = split_last fs (some_left has_front xs x (length fs) e h.fronts) in
-      let l : Longer xs (xs ++ x ∷ []) x ws ws [] ss ss [] r.0 fs (r.1 ∷ []) ks ks [] =
-      record { slots = refl; walks = sym (append-nil ws); starts = sym (append-nil ss); fronts = r.2; firsts = sym (append-nil ks); one = one_front x r.1 e } in
-      longer_ends l (shorter_fits l h)
-
-  by_first : has_first x ≡ true → EndsWith x (frames_of (xs ++ x ∷ []) ws ss fs ks)
-  by_first e =
-      let r = split_last ks (some_left has_first xs x (length ks) e h.firsts) in
-      let l : Longer xs (xs ++ x ∷ []) x ws ws [] ss ss [] fs fs [] r.0 ks (r.1 ∷ []) =
-      record { slots = refl; walks = sym (append-nil ws); starts = sym (append-nil ss); fronts = sym (append-nil fs); firsts = r.2; one = one_first x r.1 e } in
-      longer_ends l (shorter_fits l h)
-
-  by : (y : Slot) → x ≡ y → EndsWith x (frames_of (xs ++ x ∷ []) ws ss fs ks)
-  by (Then s n) e = by_alone (ap is_alone e)
-  by (Choose s r n m) e = by_start (ap has_start e)
-  by Restore e = by_start (ap has_start e)
-  by (Each acts n) e = by_walk (ap has_walk e)
-  by (Leftmost s n m) e = by_walk (ap has_walk e)
-  by (Those s n m any) e = by_walk (ap has_walk e)
-  by (Tail s n k) e = by_alone (ap is_alone e)
-  by (Rest n k) e = by_front (ap has_front e)
-  by (Head s n) e = by_walk (ap has_walk e)
-  by (After k) e = by_first (ap has_first e)
-  by (Leave n) e = by_alone (ap is_alone e)
-  by (Cut n k) e = by_alone (ap is_alone e)
 
 -- ---- adding a frame and taking it off
 

@@ -1,6 +1,6 @@
 -- The path through the frames, the outermost first, and trails.
 use Rattle.std.proofs.Common.{◌≡◌, ◌<◌, ◌≤◌, ℕ, ◌+◌, List, [], ◌∷◌, ◌++◌, length, take, map, reverse, refl, sym, ap, ◌∙◌, arith, get_or, suc}
-use Rattle.std.proofs.lemmas.List.{append-nil, append_assoc, reverse-append, take_all, map-append}
+use Rattle.std.proofs.lemmas.List.{append-nil, append_assoc, nil_from_length, reverse-append, take_all, map-append}
 use Rattle.std.proofs.Math.Seq.{take-suc}
 use Rattle.term_paths.specs.Edits.{Edit, Edits, prefixed}
 use Rattle.term_changes.specs.Entries.{Entry}
@@ -10,12 +10,10 @@ use Rattle.strategy_machine.specs.declared.stack.Start.{Start}
 use Rattle.strategy_machine.specs.declared.stack.Front.{Front}
 use Rattle.strategy_machine.specs.declared.stack.First.{First}
 use Rattle.strategy_machine.specs.inside.Slots.{frames_of, Fits}
-use Rattle.strategy_machine.specs.inside.Steps.{step_of}
-use Rattle.strategy_machine.proofs.SlotLemmas.{nil_of}
+use Rattle.strategy_machine.proofs.SlotLemmas.{step_of, outermost}
 use Rattle.strategy_machine.specs.declared.frames.Frame.{Frame}
 use Rattle.strategy_machine.specs.declared.frames.Walk.{Walk}
 use Rattle.strategy_machine.specs.declared.stack.Slot.{Slot}
-use Rattle.strategy_machine.specs.declared.stack.Slot.TheVariants.{Then, Choose, Restore, Each, Leftmost, Those, Tail, Rest, Head, After, Leave, Cut}
 use Rattle.strategy_machine.specs.declared.frames.Frame.TheVariants as frames
 
 next : (i : ℕ) → i + 1 ≡ suc i
@@ -25,18 +23,11 @@ taken : {A : Type 0} (fs : List A) (i : ℕ) (f : A) → i < length fs → f ≡
 taken fs i f lt e = ap (λ k. take k fs) (next i) ∙ take-suc fs i f lt ∙ ap (λ x. take i fs ++ x ∷ []) (sym e)
 
 path_step : (f : Frame) (fs : List Frame) → path_of (f ∷ fs) ≡ path_of fs ++ step_of f
-path_step (frames.Then s n) fs = sym (append-nil (path_of fs))
-path_step (frames.Choose s r n p k m) fs = sym (append-nil (path_of fs))
-path_step (frames.Restore p k) fs = sym (append-nil (path_of fs))
 path_step (frames.Each acts n w) fs = refl
 path_step (frames.Leftmost s n w m) fs = refl
 path_step (frames.Those s n w m any) fs = refl
-path_step (frames.Tail s n k) fs = sym (append-nil (path_of fs))
-path_step (frames.Rest p ps n k) fs = sym (append-nil (path_of fs))
 path_step (frames.Head s n w) fs = refl
-path_step (frames.After p first k) fs = sym (append-nil (path_of fs))
-path_step (frames.Leave n) fs = sym (append-nil (path_of fs))
-path_step (frames.Cut n k) fs = sym (append-nil (path_of fs))
+path_step f fs = sym (append-nil (path_of fs))
 
 -- the outermost frame
 path_end : (gs : List Frame) (f : Frame) → path_of (gs ++ f ∷ []) ≡ step_of f ++ path_of gs
@@ -50,39 +41,11 @@ path_front f fs = ap path_of (reverse-append (f ∷ []) fs) ∙ path_end (revers
 
 -- the path goes through the children that the walks are at
 pub path_walks : (xs : List Slot) (ws : List Walk) (ss : List Start) (fs : List Front) (ks : List First) → Fits xs ws ss fs ks → path_of (reverse (frames_of xs ws ss fs ks)) ≡ map (λ w. w.index) ws
-path_walks [] ws ss fs ks h = sym (ap (map (λ w. w.index)) (nil_of ws h.walks))
-path_walks (Then s n ∷ xs) ws ss fs ks h =
-    path_front (frames.Then s n) (frames_of xs ws ss fs ks) ∙ path_walks xs ws ss fs ks (record { walks = h.walks; starts = h.starts; fronts = h.fronts; firsts = h.firsts })
-path_walks (Choose s r n m ∷ xs) ws [] fs ks h = absurd (omega (arith, h.starts))
-path_walks (Choose s r n m ∷ xs) ws (p ∷ ss) fs ks h =
-    path_front (frames.Choose s r n p.part p.edits m) (frames_of xs ws ss fs ks) ∙ path_walks xs ws ss fs ks (record { walks = h.walks; starts = omega (arith, h.starts); fronts = h.fronts; firsts = h.firsts })
-path_walks (Restore ∷ xs) ws [] fs ks h = absurd (omega (arith, h.starts))
-path_walks (Restore ∷ xs) ws (p ∷ ss) fs ks h =
-    path_front (frames.Restore p.part p.edits) (frames_of xs ws ss fs ks) ∙ path_walks xs ws ss fs ks (record { walks = h.walks; starts = omega (arith, h.starts); fronts = h.fronts; firsts = h.firsts })
-path_walks (Each acts n ∷ xs) [] ss fs ks h = absurd (omega (arith, h.walks))
-path_walks (Each acts n ∷ xs) (w ∷ ws) ss fs ks h =
-    path_front (frames.Each acts n w) (frames_of xs ws ss fs ks) ∙ ap (λ x. w.index ∷ x) (path_walks xs ws ss fs ks (record { walks = omega (arith, h.walks); starts = h.starts; fronts = h.fronts; firsts = h.firsts }))
-path_walks (Leftmost s n m ∷ xs) [] ss fs ks h = absurd (omega (arith, h.walks))
-path_walks (Leftmost s n m ∷ xs) (w ∷ ws) ss fs ks h =
-    path_front (frames.Leftmost s n w m) (frames_of xs ws ss fs ks) ∙ ap (λ x. w.index ∷ x) (path_walks xs ws ss fs ks (record { walks = omega (arith, h.walks); starts = h.starts; fronts = h.fronts; firsts = h.firsts }))
-path_walks (Those s n m any ∷ xs) [] ss fs ks h = absurd (omega (arith, h.walks))
-path_walks (Those s n m any ∷ xs) (w ∷ ws) ss fs ks h =
-    path_front (frames.Those s n w m any) (frames_of xs ws ss fs ks) ∙ ap (λ x. w.index ∷ x) (path_walks xs ws ss fs ks (record { walks = omega (arith, h.walks); starts = h.starts; fronts = h.fronts; firsts = h.firsts }))
-path_walks (Tail s n k ∷ xs) ws ss fs ks h =
-    path_front (frames.Tail s n k) (frames_of xs ws ss fs ks) ∙ path_walks xs ws ss fs ks (record { walks = h.walks; starts = h.starts; fronts = h.fronts; firsts = h.firsts })
-path_walks (Rest n k ∷ xs) ws ss [] ks h = absurd (omega (arith, h.fronts))
-path_walks (Rest n k ∷ xs) ws ss (f ∷ fs) ks h =
-    path_front (frames.Rest f.node f.parts n k) (frames_of xs ws ss fs ks) ∙ path_walks xs ws ss fs ks (record { walks = h.walks; starts = h.starts; fronts = omega (arith, h.fronts); firsts = h.firsts })
-path_walks (Head s n ∷ xs) [] ss fs ks h = absurd (omega (arith, h.walks))
-path_walks (Head s n ∷ xs) (w ∷ ws) ss fs ks h =
-    path_front (frames.Head s n w) (frames_of xs ws ss fs ks) ∙ ap (λ x. w.index ∷ x) (path_walks xs ws ss fs ks (record { walks = omega (arith, h.walks); starts = h.starts; fronts = h.fronts; firsts = h.firsts }))
-path_walks (After k ∷ xs) ws ss fs [] h = absurd (omega (arith, h.firsts))
-path_walks (After k ∷ xs) ws ss fs (a ∷ ks) h =
-    path_front (frames.After a.node a.part k) (frames_of xs ws ss fs ks) ∙ path_walks xs ws ss fs ks (record { walks = h.walks; starts = h.starts; fronts = h.fronts; firsts = omega (arith, h.firsts) })
-path_walks (Leave n ∷ xs) ws ss fs ks h =
-    path_front (frames.Leave n) (frames_of xs ws ss fs ks) ∙ path_walks xs ws ss fs ks (record { walks = h.walks; starts = h.starts; fronts = h.fronts; firsts = h.firsts })
-path_walks (Cut n k ∷ xs) ws ss fs ks h =
-    path_front (frames.Cut n k) (frames_of xs ws ss fs ks) ∙ path_walks xs ws ss fs ks (record { walks = h.walks; starts = h.starts; fronts = h.fronts; firsts = h.firsts })
+path_walks [] ws ss fs ks h = sym (ap (map (λ w. w.index)) (nil_from_length ws h.walks))
+path_walks (x ∷ xs) ws ss fs ks h =
+    let o = outermost x xs ws ss fs ks h in
+    ap (λ (l : List Frame). path_of (reverse l)) o.is ∙ path_front o.frame (frames_of xs o.walks o.starts o.fronts o.firsts)
+    ∙ ap (λ (l : List ℕ). step_of o.frame ++ l) (path_walks xs o.walks o.starts o.fronts o.firsts o.fits) ∙ sym o.steps
 
 -- one more walk
 pub path_more : (ws : List Walk) (i : ℕ) (w : Walk) (old new : List ℕ) → i < length ws → w ≡ get_or ws i w → old ≡ map (λ v. v.index) (take i ws) → new ≡ old ++ w.index ∷ [] → new ≡ map (λ v. v.index) (take (i + 1) ws)

@@ -7,7 +7,6 @@ pub mod Missing
 pub mod Names
 pub mod Rules
 pub mod Slots
-pub mod Steps
 pub mod Taking
 pub mod Tries
 pub mod Turning
