@@ -1,7 +1,8 @@
 -- Patterns that are built in order, and the cells opened for them.
-use Rattle.std.proofs.Common.{◌≡◌, ◌<◌, ◌≤◌, ℕ, ◌+◌, List, [], ◌∷◌, ◌++◌, length, take, drop, map, refl, sym, ap, ◌∙◌, arith, Some, None, get_or, zero, suc, true, false}
+use Rattle.std.proofs.Common.{◌≡◌, ◌<◌, ◌≤◌, ℕ, ◌+◌, List, [], ◌∷◌, ◌++◌, length, take, drop, map, refl, sym, ap, ◌∙◌, arith, Some, None, get_or, suc, true, false}
 use Rattle.std.proofs.lemmas.List.{append-nil, append_assoc, map-append, take_all}
-use Rattle.std.proofs.Math.Seq.{take-suc}
+use Rattle.std.proofs.Math.Seq.{drop-cons, take-suc}
+use Rattle.std.proofs.Math.ListN.{drop_of_length-le}
 use Rattle.term_core.specs.Tree.{Tree}
 use Rattle.term_core.specs.Size.{fits}
 use Rattle.strategy_syntax.specs.Resolved.{ResolvedPattern, resolved_patterns_of}
@@ -57,13 +58,8 @@ pub record BuiltSoFar (room : ℕ) (old new : CellContents) (ps : List ResolvedP
 pub built_none : (room : ℕ) (C : CellContents) (ps : List ResolvedPattern) (E : List ℕ) (l : ℕ) (us : List Tree) → us ≡ [] → BuiltSoFar room C C ps E l 0 us
 built_none room C ps E l us e = rw e record { cells = refl; built = λ c go. refl }
 
-dropped_suc : (ps : List ResolvedPattern) (i : ℕ) (p : ResolvedPattern) → i < length ps → p ≡ get_or ps i p → drop i ps ≡ p ∷ drop (suc i) ps
-dropped_suc [] i p lt e = absurd (omega (arith, lt))
-dropped_suc (q ∷ ps) zero p lt e = ap (λ x. x ∷ ps) (sym e)
-dropped_suc (q ∷ ps) (suc i) p lt e = dropped_suc ps i p (omega (arith, lt)) e
-
 dropped : (ps : List ResolvedPattern) (i : ℕ) (p : ResolvedPattern) → i < length ps → p ≡ get_or ps i p → drop i ps ≡ p ∷ drop (i + 1) ps
-dropped ps i p lt e = dropped_suc ps i p lt e ∙ ap (λ k. p ∷ drop k ps) (sym (next i))
+dropped ps i p lt e = drop-cons ps i p lt ∙ ap (λ x. x ∷ drop (suc i) ps) (sym e) ∙ ap (λ k. p ∷ drop k ps) (sym (next i))
 
 -- the next one
 here : (room : ℕ) (old new : CellContents) (ps : List ResolvedPattern) (E : List ℕ) (l i : ℕ) (us : List Tree) (p : ResolvedPattern) → i < length ps → p ≡ get_or ps i p → BuiltSoFar room old new ps E l i us
@@ -97,14 +93,8 @@ built_big room old new ps E l i us p u lt e b f h c go =
     here room old new ps E l i us p lt e h c go
     ∙ big_is room l c u (build_pattern p E old.bindings) _ (ap (λ (C : CellContents). build_pattern p E C.bindings) (sym h.cells) ∙ b) f
 
-past : (ps : List ResolvedPattern) (i : ℕ) → length ps ≤ i → drop i ps ≡ []
-past [] zero le = refl
-past [] (suc i) le = refl
-past (p ∷ ps) zero le = absurd (omega (arith, le))
-past (p ∷ ps) (suc i) le = past ps i (omega (arith, le))
-
 pub built_over : (room : ℕ) (old new : CellContents) (ps : List ResolvedPattern) (E : List ℕ) (l i : ℕ) (us : List Tree) → length ps ≤ i → BuiltSoFar room old new ps E l i us
     → (c : ℕ) (go : List Tree → Answer) → built_all room (resolved_patterns_of ps) E old.bindings l c go ≡ go us
 built_over room old new ps E l i us le h c go =
-    h.built c go ∙ ap (λ (qs : List ResolvedPattern). built_all room (resolved_patterns_of qs) E old.bindings l c (λ vs. go (us ++ vs))) (past ps i le)
+    h.built c go ∙ ap (λ (qs : List ResolvedPattern). built_all room (resolved_patterns_of qs) E old.bindings l c (λ vs. go (us ++ vs))) (drop_of_length-le ps le)
     ∙ ap go (append-nil us)

@@ -1,6 +1,6 @@
 -- Calls of definitions and primitives.
-use Rattle.std.proofs.lemmas.Option.{slice_get_past, slice_get-get_or}
-use Rattle.std.proofs.Common.{◌≡◌, ◌<◌, ◌≤◌, get_or, ℕ, ◌+◌, List, ◌++◌, length, map, replicate, reverse, sym, ap, ◌∙◌, subst, Some, None, Bor, slice_get}
+use Rattle.std.proofs.lemmas.Option.{slice_get-get_or}
+use Rattle.std.proofs.Common.{◌≡◌, ◌<◌, get_or, ℕ, ◌+◌, List, ◌++◌, length, map, replicate, reverse, sym, ap, ◌∙◌, subst, Some, None, Bor, slice_get}
 use Rattle.std.proofs.lemmas.List.{append_assoc}
 use Rattle.term_core.specs.Tree.{Tree}
 use Rattle.term_changes.specs.Standing.{Standing, standing_tree}
@@ -44,9 +44,6 @@ entered W sub whole m new f ss ps d s n inner k e se en h =
     (k m.steps _ ∙ some_is (slice_get W.bodies f) d m.steps (λ x. enter (run W) ss E us x m.level m.steps m.cells.bindings (standing_tree p)) e
     ∙ ap (λ (r : ResolvedStrategy). opened (run W) (inside (numbers_from (length m.cells.bindings) (length us + d.variables)) (arguments E ss)) (map Some us ++ replicate d.variables None) m.level r m.steps m.cells.bindings (standing_tree p)) (sym se))
     en.there en.scope (en.cells ∙ append_assoc m.cells.bindings (map Some us) (replicate d.variables None)) (en.room W sub whole p) h))
-
-pub slice_past : {A : Type 0} (xs : List A) (i : ℕ) → length xs ≤ i → slice_get xs i ≡ None
-slice_past xs i le = slice_get_past xs i le
 
 pub slice_there : {A : Type 0} (xs : List A) (i : ℕ) (x : A) → i < length xs → x ≡ get_or xs i x → slice_get xs i ≡ Some x
 slice_there xs i x lt e = slice_get-get_or xs i x lt ∙ ap Some (sym e)

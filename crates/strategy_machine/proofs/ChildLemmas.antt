@@ -1,5 +1,5 @@
 -- Strategies on children: one starts, and one is done.
-use Rattle.std.proofs.Common.{◌≡◌, ◌≤◌, ℕ, ◌+◌, ◌-◌, zero, suc, List, [], ◌∷◌, ◌++◌, length, refl, sym, ap, ◌∙◌, subst, arith, Some, None, Bool, true, false, cond, not, ◌==◌, Bor, Vec, Global, slice_get, slice_set}
+use Rattle.std.proofs.Common.{◌≡◌, ℕ, ◌+◌, ◌-◌, suc, List, [], ◌∷◌, ◌++◌, length, refl, sym, ap, ◌∙◌, subst, arith, Some, None, Bool, true, false, cond, not, ◌==◌, Bor, Vec, Global, slice_get, slice_set}
 use Rattle.std.specs.declared.option.Option.{Option}
 use Rattle.std.proofs.lemmas.List.{length-append}
 use Rattle.std.proofs.lemmas.Bool.{eqb-true, not-false}
@@ -29,6 +29,7 @@ use Rattle.strategy_machine.specs.declared.frames.Frame.TheVariants as frames
 use Rattle.strategy_machine.specs.Hands.{Begin, Done, Failed, Each, Leftmost, Those}
 use Rattle.strategy_machine.proofs.LeadLemmas.{leads_nothing, leads_same}
 use Rattle.strategy_machine.proofs.NodeLeads.{none_stand, child_has, node_has, node_tree, node_count, part_count, node_written, leads_child}
+use Rattle.strategy_machine.proofs.PartsLemmas.{past_all}
 use Rattle.strategy_machine.proofs.OpenLemmas.{with_edits-done, prefixed-prefixed, opens_along, opens_on, opens_new, before_self}
 
 -- ---- a child's turn comes
@@ -43,15 +44,10 @@ pub on_none : (act : Act) (i c : ℕ) (B : Bindings) (t : Tree) → slice_get (c
 on_none act i c B t e =
     ap (λ (o : Option Tree). with_some o c (λ v. if_done (act c B v) (λ x C b d. done (with_child t i x) C b (prefixed (i ∷ []) d)))) e
 
-none_within : (ps : List Standing) (i : ℕ) → slice_get ps i ≡ None → length ps ≤ i
-none_within [] i e = omega arith
-none_within (q ∷ ps) zero e = absurd (cc)
-none_within (q ∷ ps) (suc i) e = omega (arith, none_within ps i e)
-
 pub no_part : (p : Standing) (parts : List Standing) (i : ℕ) → PartsStand p parts → slice_get (parts_now p parts) i ≡ None
     → slice_get (children (standing_tree (node_now p parts))) i ≡ None
 no_part p parts i st e = slice_get_past (children (standing_tree (node_now p parts))) i
-    (omega (arith, none_within (parts_now p parts) i e, node_count p parts st, part_count p parts st))
+    (omega (arith, past_all (parts_now p parts) i e, node_count p parts st, part_count p parts st))
 
 -- a walk over a node, at child i
 abbrev pub walk_at : Standing → Vec Standing Global → ℕ → State → Walk
@@ -130,7 +126,7 @@ each_fails W sub whole S acts others s n i k p parts ke ae e h =
 
 -- how many children are left, if there is none at i and if there is one
 pub none_left : (p : Standing) (parts : List Standing) (i : ℕ) → PartsStand p parts → slice_get (parts_now p parts) i ≡ None → length (children (standing_tree p)) - i ≡ 0
-none_left p parts i st e = omega (arith, none_within (parts_now p parts) i e, part_count p parts st)
+none_left p parts i st e = omega (arith, past_all (parts_now p parts) i e, part_count p parts st)
 
 one_left : {A : Type 0} (us : List A) (i : ℕ) (u : A) → slice_get us i ≡ Some u → length us - i ≡ suc (length us - (i + 1))
 one_left us i u e = omega (arith, slice_get_within us i u e)

@@ -1,6 +1,6 @@
 -- Where scopes and cells that a strategy adds end.
-use Rattle.std.proofs.Common.{◌≡◌, ◌<◌, ◌≤◌, ℕ, zero, suc, List, [], ◌∷◌, length, take, reverse, refl, sym, ap, ◌∙◌, subst, arith, Bor}
-use Rattle.std.proofs.lemmas.List.{length-take, get_or-take}
+use Rattle.std.proofs.Common.{◌≡◌, ◌<◌, ◌≤◌, ℕ, List, [], ◌∷◌, length, take, reverse, refl, sym, ap, ◌∙◌, subst, arith, Bor}
+use Rattle.std.proofs.lemmas.List.{length-take, get_or-take, take-take}
 use Rattle.term_paths.specs.Edits.{Edits}
 use Rattle.term_changes.specs.Standing.{Standing, standing_tree}
 use Rattle.strategy_syntax.specs.Resolved.{ResolvedStrategy}
@@ -15,11 +15,12 @@ use Rattle.strategy_machine.specs.Turns.{State, HoldsIn}
 use Rattle.strategy_machine.specs.inside.Taking.{FormIn}
 use Rattle.strategy_machine.specs.inside.Endings.{LeavesScopes, LeavesCells, AnswersIn, with_those}
 use Rattle.strategy_machine.specs.declared.frames.Frame.{Frame}
-use Rattle.strategy_machine.specs.declared.frames.Frame.TheVariants.{Then, Choose, Restore, Each, Leftmost, Those, Tail, Rest, Head, After, Leave, Cut}
+use Rattle.strategy_machine.specs.declared.frames.Frame.TheVariants.{Leave, Cut}
 use Rattle.strategy_machine.specs.declared.stack.Slot.TheVariants as slots
 use Rattle.strategy_machine.specs.inside.Slots.{EndsWith}
 use Rattle.strategy_machine.proofs.SlotLemmas.{leave_is, cut_is, ends_reversed}
 use Rattle.strategy_machine.specs.Hands.{Begin}
+use Rattle.strategy_machine.proofs.TableArguments.{starts-length}
 use Rattle.strategy_machine.proofs.OpenLemmas.{with_edits-cut, opens_along, opens_through, meets_kept}
 
 -- ---- the innermost frame
@@ -35,26 +36,17 @@ leaves_cells gs n k h = subst (λ (l : List Frame). LeavesCells l k) (sym (ends_
 
 -- ---- scopes
 
-starts_length : (xs ys : List Scope) → Starts xs ys → length xs ≤ length ys
-starts_length xs ys e = omega (arith, ap (λ (l : List Scope). length l) e, length-take (length xs) ys)
-
-take_twice : (k m : ℕ) (xs : List Scope) → k ≤ m → take k (take m xs) ≡ take k xs
-take_twice zero m xs le = refl
-take_twice (suc k) zero xs le = absurd (omega (arith, le))
-take_twice (suc k) (suc m) [] le = refl
-take_twice (suc k) (suc m) (x ∷ xs) le = ap (λ l. x ∷ l) (take_twice k m xs (omega (arith, le)))
-
 -- scopes after the first ones don't matter
 fewer_same : (k m : ℕ) (xs mid ys : List Scope) → k ≤ length xs → k ≤ m → mid ≡ take m xs → Starts mid ys → take k ys ≡ take k xs
 fewer_same k m xs mid ys lk le e st =
     let n : length mid ≡ length (take m xs) = ap (λ (l : List Scope). length l) e in
     let here : k ≤ length mid = omega (arith, n, length-take m xs, lk, le) in
-    sym (take_twice k (length mid) ys here) ∙ ap (take k) (st ∙ e) ∙ take_twice k m xs le
+    sym (take-take k (length mid) ys here) ∙ ap (take k) (st ∙ e) ∙ take-take k m xs le
 
 fewer_length : (k m : ℕ) (xs mid ys : List Scope) → k ≤ length xs → k ≤ m → mid ≡ take m xs → Starts mid ys → k ≤ length ys
 fewer_length k m xs mid ys lk le e st =
     let n : length mid ≡ length (take m xs) = ap (λ (l : List Scope). length l) e in
-    omega (arith, n, length-take m xs, lk, le, starts_length mid ys st)
+    omega (arith, n, length-take m xs, lk, le, starts-length mid ys st)
 
 pub still_there : (n m : ℕ) (xs mid : List Scope) → n < length xs → n < m → mid ≡ take m xs → n < length mid
 still_there n m xs mid l k e =
@@ -67,13 +59,7 @@ still_same n m xs mid k e = ap (λ l. scope_at l n) e ∙ get_or-take m xs n now
 -- ---- answers
 
 cut_twice : (n m : ℕ) (a : Answer) → n ≤ m → cut n (cut m a) ≡ cut n a
-cut_twice n m (done t B b e) le = ap (λ l. done t l b e) (firsts n m B le)
-  where
-    firsts : {A : Type 0} (k j : ℕ) (xs : List A) → k ≤ j → take k (take j xs) ≡ take k xs
-    firsts zero j xs h = refl
-    firsts (suc k) zero xs h = absurd (omega (arith, h))
-    firsts (suc k) (suc j) [] h = refl
-    firsts (suc k) (suc j) (x ∷ xs) h = ap (λ l. x ∷ l) (firsts k j xs (omega (arith, h)))
+cut_twice n m (done t B b e) le = ap (λ l. done t l b e) (take-take n m B le)
 cut_twice n m (failed b) le = refl
 cut_twice n m (stopped w) le = refl
 
@@ -97,7 +83,7 @@ leave_pushed W sub whole S p a es st h = record {
   edits = h.edits;
   shows = h.shows;
   opens = opens_through a a (λ start base e r. (
-    starts_length S.scopes es st,
+    starts-length S.scopes es st,
     subst (λ (y : List Scope). Meets W sub whole S.cells (mark_of S.cells) y S.level S.frames start base (with_edits e a)) (sym st) r,
   )) h.opens;
 }
@@ -125,16 +111,7 @@ leave_kept W sub whole S p a k m mid es f le e st h = record {
           r.1,
           subst (λ (y : List Scope). Meets W sub whole S.cells (record { count = n; filled = (mark_of S.cells).filled }) y S.level fs start base (cut n b)) (sym (fewer_same j m S.scopes mid es r.0 low e st)) r.2,
         )
-    kept (Then s n ∷ fs) start base b g r = absurd g
-    kept (Choose s2 s3 n saved j mark ∷ fs) start base b g r = absurd g
-    kept (Restore saved j ∷ fs) start base b g r = absurd g
-    kept (Each acts n w ∷ fs) start base b g r = absurd g
-    kept (Leftmost s n w mark ∷ fs) start base b g r = absurd g
-    kept (Those s n w mark any ∷ fs) start base b g r = absurd g
-    kept (Tail s n j ∷ fs) start base b g r = absurd g
-    kept (Rest node ps n j ∷ fs) start base b g r = absurd g
-    kept (Head s n w ∷ fs) start base b g r = absurd g
-    kept (After node first j ∷ fs) start base b g r = absurd g
+    kept (f ∷ fs) start base b g r = absurd g
 
 -- ---- cells that end
 
@@ -146,7 +123,7 @@ cut_pushed W sub whole S p a D es st b sy h = record {
   edits = h.edits;
   shows = h.shows;
   opens = opens_through _ _ (λ start base e x. (
-    starts_length S.scopes es st,
+    starts-length S.scopes es st,
     b.0,
     meets_kept W sub whole S.cells D (mark_of S.cells) (record { count = length S.cells.bindings; filled = length D.filled }) (take (length S.scopes) es) S.level S.frames start base _ (omega arith, b.1) sy
         (subst (λ (y : List Scope). Meets W sub whole S.cells (mark_of S.cells) y S.level S.frames start base (cut (length S.cells.bindings) (with_edits e a))) (sym st)
@@ -179,14 +156,4 @@ cut_kept W sub whole S p a k m mid es D f le e st b sy h = record {
               (subst (λ (y : List Scope). Meets W sub whole S.cells (record { count = n; filled = (mark_of S.cells).filled }) y S.level fs start base (cut n (with_edits x a))) (sym (fewer_same j m S.scopes mid es r.0 low e st))
               (subst (Meets W sub whole S.cells (record { count = n; filled = (mark_of S.cells).filled }) (take j S.scopes) S.level fs start base) once r.2)),
         )
-    kept (Leave n ∷ fs) start base x g r = absurd g
-    kept (Then s n ∷ fs) start base x g r = absurd g
-    kept (Choose s2 s3 n saved j mark ∷ fs) start base x g r = absurd g
-    kept (Restore saved j ∷ fs) start base x g r = absurd g
-    kept (Each acts n w ∷ fs) start base x g r = absurd g
-    kept (Leftmost s n w mark ∷ fs) start base x g r = absurd g
-    kept (Those s n w mark any ∷ fs) start base x g r = absurd g
-    kept (Tail s n j ∷ fs) start base x g r = absurd g
-    kept (Rest node ps n j ∷ fs) start base x g r = absurd g
-    kept (Head s n w ∷ fs) start base x g r = absurd g
-    kept (After node first j ∷ fs) start base x g r = absurd g
+    kept (f ∷ fs) start base x g r = absurd g

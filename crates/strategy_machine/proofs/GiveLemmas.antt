@@ -132,17 +132,7 @@ goes_on W sub whole C es t l c fs (frames.Each acts m w) g s n p q (others, h, n
     subst (λ (k : ℕ). HoldsIn W sub whole (st C es t l c (g ∷ fs)) (Begin s k q)) (sym next.0)
     (subst (λ (y : Frame). HoldsIn W sub whole (st C es t l c (y ∷ fs)) (Begin s m q)) (sym (is ∙ ap (λ (y : Frame). with_acts y others) walks.1))
     (steps_on W sub whole C es t l c fs acts others m w walks.0 s p q next.1 walks.2 x))
-goes_on W sub whole C es t l c fs (frames.Then r m) g s n p q k x = absurd k.2
-goes_on W sub whole C es t l c fs (frames.Choose r2 r3 m saved e mark) g s n p q k x = absurd k.2
-goes_on W sub whole C es t l c fs (frames.Restore saved e) g s n p q k x = absurd k.2
-goes_on W sub whole C es t l c fs (frames.Leftmost r m w mark) g s n p q k x = absurd k.2
-goes_on W sub whole C es t l c fs (frames.Those r m w mark any) g s n p q k x = absurd k.2
-goes_on W sub whole C es t l c fs (frames.Tail r m e) g s n p q k x = absurd k.2
-goes_on W sub whole C es t l c fs (frames.Rest node ps m e) g s n p q k x = absurd k.2
-goes_on W sub whole C es t l c fs (frames.Head r m w) g s n p q k x = absurd k.2
-goes_on W sub whole C es t l c fs (frames.After node first e) g s n p q k x = absurd k.2
-goes_on W sub whole C es t l c fs (frames.Leave m) g s n p q k x = absurd k.2
-goes_on W sub whole C es t l c fs (frames.Cut m e) g s n p q k x = absurd k.2
+goes_on W sub whole C es t l c fs f g s n p q k x = absurd k.2
 
 -- ---- the child of a walk that holds no parts
 

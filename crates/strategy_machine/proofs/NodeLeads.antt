@@ -2,6 +2,7 @@
 use Rattle.std.proofs.Common.{◌≡◌, ℕ, List, [], ◌∷◌, ◌⊎◌, inl, inr, length, map, slice_get, Some, refl, sym, ap, subst, ◌∙◌, zero, suc}
 use Rattle.std.proofs.lemmas.Bool.{cases_eq}
 use Rattle.std.specs.Prelude.{slice_set, option_map}
+use Rattle.std.proofs.lemmas.List.{map-set}
 use Rattle.std.proofs.lemmas.Option.{slice_get-map}
 use Rattle.term_core.specs.Tree.{Tree, children, with_children, with_child}
 use Rattle.term_paths.specs.Edits.{Edits, prefixed, Replaces}
@@ -146,11 +147,6 @@ set_stands node parts i c r h e f k =
       have = subst AllHave is (set_have ps i r h.have k);
     }
 
-map-set : (ps : List Standing) (i : ℕ) (r : Standing) → map standing_tree (slice_set ps i r) ≡ slice_set (map standing_tree ps) i (standing_tree r)
-map-set [] i r = refl
-map-set (p ∷ ps) zero r = refl
-map-set (p ∷ ps) (suc i) r = ap (λ l. standing_tree p ∷ l) (map-set ps i r)
-
 pub node_written : (node : Standing) (parts : List Standing) (i : ℕ) (c r : Standing) → PartsStand node parts → slice_get (parts_now node parts) i ≡ Some c → PartsStand node (slice_set (parts_now node parts) i r)
     → standing_tree (node_now node (slice_set (parts_now node parts) i r)) ≡ with_child (standing_tree (node_now node parts)) i (standing_tree r)
 node_written node parts i c r h e k =
@@ -160,7 +156,7 @@ node_written node parts i c r h e k =
     let vs = slice_set us i (standing_tree r) in
     tree_now node (slice_set ps i r) k
     ∙ ap (λ l. with_children t (map standing_tree l)) (set_some node ps i c r e)
-    ∙ ap (with_children t) (map-set ps i r)
+    ∙ ap (with_children t) (map-set standing_tree ps i r)
     ∙ sym (with_children-with_children t us vs)
     ∙ sym (ap (λ x. with_children x vs) (tree_now node parts h))
     ∙ ap (λ l. with_children (standing_tree (node_now node parts)) (slice_set l i (standing_tree r))) (sym (trees_now node parts h))

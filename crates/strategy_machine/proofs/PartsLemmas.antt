@@ -1,7 +1,9 @@
 -- The parts in the places of all children, given those of some first ones.
 use Rattle.std.proofs.Common.{◌≡◌, ◌<◌, ◌≤◌, ℕ, zero, suc, List, [], ◌∷◌, ◌++◌, ◌⊎◌, inl, inr, length, map, take, drop, slice_get, slice_set, Some, None, Bool, true, false, cond, refl, sym, ap, subst, ◌∙◌, arith, ◌==◌}
 use Rattle.std.proofs.lemmas.Bool.{eqb-true}
-use Rattle.std.proofs.lemmas.List.{append-nil, length-append}
+use Rattle.std.proofs.Math.ListN.{drop_of_length-le}
+use Rattle.std.proofs.lemmas.List.{append-nil, length-append, length-set, nil_from_length, set-append_left, set_past}
+use Rattle.std.proofs.lemmas.Option.{slice_get_past}
 use Rattle.term_core.specs.Tree.{Tree, children, with_children, list_term}
 use Rattle.term_changes.specs.Standing.{Standing, standing_tree, standing_children, CanHold, with_standing}
 use Rattle.term_changes.proofs.NodeLemmas.{with_children-with_children}
@@ -10,6 +12,7 @@ use Rattle.term_changes.proofs.FollowLemmas.{followers_can_stand, trees_of_child
 use Rattle.strategy_meaning.specs.Meaning.{rest_of, with_rest}
 use Rattle.strategy_machine.specs.Leading.{node_now, parts_now, all_parts, node_with, PartsStand}
 use Rattle.strategy_machine.specs.inside.Filling.{over, Fills}
+use Rattle.strategy_machine.proofs.LookupLemmas.{get-outer}
 use Rattle.strategy_machine.proofs.NodeLeads.{tree_now, trees_now}
 
 pub parts_over : (p : Standing) (qs : List Standing) → parts_now p (all_parts p qs) ≡ over qs (standing_children p)
@@ -21,60 +24,29 @@ pub count_is : (p : Standing) → length (standing_children p) ≡ length (child
 count_is p = sym (length-map_tree (standing_children p)) ∙ ap length (trees_of_children p)
 
 dropped : {A : Type 0} (xs : List A) (n : ℕ) → length xs ≤ n → drop n xs ≡ []
-dropped [] zero le = refl
-dropped [] (suc n) le = refl
-dropped (x ∷ xs) zero le = absurd (omega (arith, le))
-dropped (x ∷ xs) (suc n) le = dropped xs n (omega (arith, le))
+dropped xs n le = drop_of_length-le xs le
 
 over_none : (qs : List Standing) → over qs [] ≡ qs
 over_none qs = ap (λ (l : List Standing). qs ++ l) (dropped {A = Standing} [] (length qs) (omega arith)) ∙ append-nil qs
 
-length-over : (qs cs : List Standing) → length qs ≤ length (over qs cs)
-length-over qs cs = omega (arith, length-append qs (drop (length qs) cs))
-
 -- ---- one of them
-
-get_front : (xs ys : List Standing) (i : ℕ) → i < length xs → slice_get (xs ++ ys) i ≡ slice_get xs i
-get_front [] ys i lt = absurd (omega (arith, lt))
-get_front (x ∷ xs) ys zero lt = refl
-get_front (x ∷ xs) ys (suc i) lt = get_front xs ys i (omega (arith, lt))
-
-get_none : (xs : List Standing) (i : ℕ) → length xs ≤ i → slice_get xs i ≡ None
-get_none [] i le = refl
-get_none (x ∷ xs) zero le = absurd (omega (arith, le))
-get_none (x ∷ xs) (suc i) le = get_none xs i (omega (arith, le))
 
 get_after : (qs cs : List Standing) (i : ℕ) → length qs ≤ i → slice_get (over qs cs) i ≡ slice_get cs i
 get_after [] cs i le = refl
-get_after (q ∷ qs) [] i le = ap (λ l. slice_get l i) (over_none (q ∷ qs)) ∙ get_none (q ∷ qs) i le
+get_after (q ∷ qs) [] i le = ap (λ l. slice_get l i) (over_none (q ∷ qs)) ∙ slice_get_past (q ∷ qs) i le
 get_after (q ∷ qs) (c ∷ cs) zero le = absurd (omega (arith, le))
 get_after (q ∷ qs) (c ∷ cs) (suc i) le = get_after qs cs i (omega (arith, le))
 
 pub child_in : (p : Standing) (qs : List Standing) (i : ℕ) → i < length qs → slice_get qs i ≡ slice_get (parts_now p (all_parts p qs)) i
-child_in p qs i lt = sym (get_front qs (drop (length qs) (standing_children p)) i lt) ∙ ap (λ l. slice_get l i) (sym (parts_over p qs))
+child_in p qs i lt = sym (get-outer qs (drop (length qs) (standing_children p)) i lt) ∙ ap (λ l. slice_get l i) (sym (parts_over p qs))
 
 pub child_after : (p : Standing) (qs : List Standing) (i : ℕ) → length qs ≤ i → slice_get (standing_children p) i ≡ slice_get (parts_now p (all_parts p qs)) i
 child_after p qs i le = sym (get_after qs (standing_children p) i le) ∙ ap (λ l. slice_get l i) (sym (parts_over p qs))
 
 -- ---- one of them set
 
-set_front : (xs ys : List Standing) (i : ℕ) (q : Standing) → i < length xs → slice_set xs i q ++ ys ≡ slice_set (xs ++ ys) i q
-set_front [] ys i q lt = absurd (omega (arith, lt))
-set_front (x ∷ xs) ys zero q lt = refl
-set_front (x ∷ xs) ys (suc i) q lt = ap (λ l. x ∷ l) (set_front xs ys i q (omega (arith, lt)))
-
-length-set : (xs : List Standing) (i : ℕ) (q : Standing) → length (slice_set xs i q) ≡ length xs
-length-set [] i q = refl
-length-set (x ∷ xs) zero q = refl
-length-set (x ∷ xs) (suc i) q = ap suc (length-set xs i q)
-
-set_none : (xs : List Standing) (i : ℕ) (q : Standing) → length xs ≤ i → slice_set xs i q ≡ xs
-set_none [] i q le = refl
-set_none (x ∷ xs) zero q le = absurd (omega (arith, le))
-set_none (x ∷ xs) (suc i) q le = ap (λ l. x ∷ l) (set_none xs i q (omega (arith, le)))
-
 set_in : (qs cs : List Standing) (i : ℕ) (q : Standing) → i < length qs → over (slice_set qs i q) cs ≡ slice_set (over qs cs) i q
-set_in qs cs i q lt = ap (λ n. slice_set qs i q ++ drop n cs) (length-set qs i q) ∙ set_front qs (drop (length qs) cs) i q lt
+set_in qs cs i q lt = ap (λ n. slice_set qs i q ++ drop n cs) (length-set qs i q) ∙ sym (set-append_left qs (drop (length qs) cs) i q lt)
 
 set_next : (qs cs : List Standing) (q : Standing) → length qs < length cs → over (qs ++ q ∷ []) cs ≡ slice_set (over qs cs) (length qs) q
 set_next [] [] q lt = absurd (omega (arith, lt))
@@ -104,7 +76,7 @@ filling_more cs qs n old new c lt e is f = record {
   most = λ le. omega (arith, lt, ap (λ l. length l) is, length-append old (c ∷ []));
 }
 
-past_all : (cs : List Standing) (i : ℕ) → slice_get cs i ≡ None → length cs ≤ i
+pub past_all : {A : Type 0} (cs : List A) (i : ℕ) → slice_get cs i ≡ None → length cs ≤ i
 past_all [] i e = omega arith
 past_all (c ∷ cs) zero e = absurd (cc)
 past_all (c ∷ cs) (suc i) e = omega (arith, past_all cs i e)
@@ -115,13 +87,9 @@ filled_all cs qs n new e f = record { same = f.same; most = f.most; least = inr 
 pub filled : (cs qs : List Standing) (n : ℕ) (new : List Standing) → n ≤ length new → Filling cs qs n new → Fills cs qs n new
 filled cs qs n new le f = record { same = f.same; most = f.most; least = inl le }
 
-nil_is : (cs : List Standing) → length cs ≡ 0 → cs ≡ []
-nil_is [] e = refl
-nil_is (c ∷ cs) e = absurd (omega (arith, e))
-
 -- if no part is held, there are no children
 all_over : (p : Standing) (new : List Standing) → (length new ≡ 0 → length (standing_children p) ≡ 0) → all_parts p new ≡ over new (standing_children p)
-all_over p [] f = sym (nil_is (standing_children p) (f refl))
+all_over p [] f = sym (nil_from_length (standing_children p) (f refl))
 all_over p (q ∷ qs) f = refl
 
 -- ---- the focus, settled
@@ -165,7 +133,7 @@ settled_past p qs i q new le f g =
     let most = f.most le in
     let past : length new ≡ i → length cs ≤ i = λ e. omega (arith, g e, count_is p) in
     all_over p new (none_left (length new) i (length cs) past f.least most)
-    ∙ sym (set_none (over new cs) i q (length-over_most new cs i most (not_both (length new) i (length cs) past most f.least)))
+    ∙ sym (set_past (over new cs) i q (length-over_most new cs i most (not_both (length new) i (length cs) past most f.least)))
     ∙ ap (λ l. slice_set l i q) (f.same ∙ sym (parts_over p qs))
 
 pub when_changed : (v : Bool) (xs ys : List Standing) → v ≡ true → xs ≡ cond v xs ys

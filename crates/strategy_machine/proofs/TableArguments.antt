@@ -1,23 +1,18 @@
 -- Adding strategy arguments one by one.
-use Rattle.std.proofs.Common.{◌≡◌, ℕ, Bool, true, false, ◌+◌, ◌≤◌, ◌<◌, List, [], ◌∷◌, ◌++◌, length, take, get_or, zero, suc, refl, sym, ap, subst, ◌∙◌, arith, Some, None}
+use Rattle.std.proofs.Common.{◌≡◌, ℕ, Bool, true, false, ◌+◌, ◌≤◌, ◌<◌, List, [], ◌∷◌, ◌++◌, length, take, get_or, suc, refl, sym, ap, subst, ◌∙◌, arith, Some, None}
 use Rattle.std.specs.Prelude.{unwrap_or}
 use Rattle.std.specs.Bool.{OnTrue}
 use Rattle.std.specs.declared.option.Option.{Option}
-use Rattle.std.proofs.lemmas.List.{length-append, length-take-le, get_or-take, take-append-le, get_or-append-add}
-use Rattle.std.proofs.Math.Seq.{take-suc}
+use Rattle.std.proofs.lemmas.List.{length-append, length-take, length-take-le, nil_from_length, get_or-take, take-append-le, get_or-append-add}
+use Rattle.std.proofs.Math.Seq.{take-length, take-suc}
 use Rattle.strategy_syntax.specs.Resolved.{ResolvedStrategy, param, resolveds_of}
 use Rattle.strategy_meaning.specs.Scopes.{Scope, Closure, Closures, inside, no_closures, and_closure, closure_at, cells_in, stands_for, with_closure, with_name, argument, arguments}
 use Rattle.strategy_machine.specs.Table.{nowhere, scope_at, scope_from, IsThere, Starts, closure_of}
 use Rattle.strategy_machine.specs.declared.scopes.Closure.{Closure as TableClosure}
 use Rattle.strategy_machine.specs.inside.Entries.{AreNames, names_in, closure_count}
 
-shorter : {A : Type 0} (n : ℕ) (xs : List A) → length (take n xs) ≤ length xs
-shorter zero xs = omega arith
-shorter (suc n) [] = omega arith
-shorter (suc n) (x ∷ xs) = let h : length (take n xs) ≤ length xs = shorter n xs in omega (arith, h)
-
 pub starts-length : (old new : List Scope) → Starts old new → length old ≤ length new
-starts-length old new s = let e : length (take (length old) new) ≡ length old = ap length s in omega (arith, shorter (length old) new, e)
+starts-length old new s = omega (arith, ap (λ (l : List Scope). length l) s, length-take (length old) new)
 
 pub starts-at : (old new : List Scope) (n : ℕ) → Starts old new → n < length old → scope_at new n ≡ scope_at old n
 starts-at old new n s h = sym (get_or-take (length old) new n nowhere h) ∙ ap (λ l. scope_at l n) s
@@ -25,12 +20,8 @@ starts-at old new n s h = sym (get_or-take (length old) new n nowhere h) ∙ ap 
 pub starts-more : (old new : List Scope) (E : Scope) → Starts old new → Starts old (new ++ E ∷ [])
 starts-more old new E s = take-append-le (length old) new (E ∷ []) (starts-length old new s) ∙ s
 
-all_taken : {A : Type 0} (xs : List A) → take (length xs) xs ≡ xs
-all_taken [] = refl
-all_taken (x ∷ xs) = ap (λ l. x ∷ l) (all_taken xs)
-
 pub starts-itself : (old : List Scope) → Starts old old
-starts-itself old = all_taken old
+starts-itself old = take-length old
 
 arguments-more : (E : Scope) (ss : List ResolvedStrategy) (s : ResolvedStrategy)
     → arguments E (resolveds_of (ss ++ s ∷ [])) ≡ with_closure (arguments E (resolveds_of ss)) (argument E s).strategy (argument E s).written_in
@@ -75,7 +66,7 @@ pub added_all : (old now : List Scope) (scope : ℕ) (ss : List ResolvedStrategy
     → length ss ≤ i → i ≤ length ss → scope_from now names ≡ inside [] (arguments (scope_at old scope) (resolveds_of ss))
 added_all old now scope ss i names a h k =
     let e : i ≡ length ss = omega (arith, h, k) in
-    a.given ∙ ap (λ l. inside [] (arguments (scope_at old scope) (resolveds_of l))) (ap (λ j. take j ss) e ∙ all_taken ss)
+    a.given ∙ ap (λ l. inside [] (arguments (scope_at old scope) (resolveds_of l))) (ap (λ j. take j ss) e ∙ take-length ss)
 
 -- ---- all names passed on
 
@@ -92,15 +83,11 @@ names_stay E (and_closure r F more) i (s ∷ ss) h a l =
     let rest = names_stay E more (suc i) ss (λ x. ap (stands_for E) (omega arith) ∙ h (suc x)) a.1 (omega (arith, l)) in
     ap (λ (c : Closure). and_closure c.strategy c.written_in (arguments E (resolveds_of ss))) is ∙ ap (and_closure r F) rest
 
-no_cells : (cells : List ℕ) → length cells ≡ 0 → cells ≡ []
-no_cells [] h = refl
-no_cells (x ∷ xs) h = absurd (omega (arith, h))
-
 all_handed_on : (E : Scope) (ss : List ResolvedStrategy) → length (cells_in E) ≡ 0 → closure_count (names_in E) ≡ length ss → AreNames 0 ss
     → E ≡ inside [] (arguments E (resolveds_of ss))
 all_handed_on (inside cells names) ss v n a =
     let same = names_stay (inside cells names) names 0 ss (λ x. ap (closure_at names) (omega arith)) a (sym n) in
-    ap (λ c. inside c names) (no_cells cells v) ∙ ap (inside []) (sym same)
+    ap (λ c. inside c names) (nil_from_length cells v) ∙ ap (inside []) (sym same)
 
 one_more : (i : ℕ) (ss : List ResolvedStrategy) (s : ResolvedStrategy) → AreNames i ss → s ≡ param (i + length ss) → AreNames i (ss ++ s ∷ [])
 one_more i [] s a h = (h ∙ ap param (omega arith), tt)

@@ -1,7 +1,7 @@
 -- The scopes of a table after entries are added and after they are cut off.
 use Rattle.std.proofs.Common.{◌≡◌, ℕ, ◌+◌, ◌≤◌, ◌<◌, List, [], ◌∷◌, ◌++◌, length, take, get_or, map, zero, suc, refl, sym, ap, ◌∙◌, subst, arith, Some, None}
 use Rattle.std.specs.declared.option.Option.{Option}
-use Rattle.std.proofs.lemmas.List.{append-nil, append_assoc, length-append, get_or_append_left, get_or_past}
+use Rattle.std.proofs.lemmas.List.{append-nil, append_assoc, length-append, length-map, map-append, take-map, get_or_append_left, get_or_past}
 use Rattle.strategy_meaning.specs.Scopes.{Scope, cells_in, with_name}
 use Rattle.strategy_machine.specs.Table.{Widening, nowhere, scope_at, scope_from, with_addition, widened, scopes_after, scopes, IsThere}
 use Rattle.strategy_machine.specs.declared.scopes.Adds.{Adds}
@@ -25,15 +25,6 @@ pub scopes-take : (known : List Scope) (n : ℕ) (ws : List Widening) → scopes
 scopes-take known zero ws = refl
 scopes-take known (suc n) [] = refl
 scopes-take known (suc n) (w ∷ ws) = ap (λ l. widened known w ∷ l) (scopes-take (known ++ widened known w ∷ []) n ws)
-
-pub map-take : {A B : Type 0} (f : A → B) (n : ℕ) (xs : List A) → map f (take n xs) ≡ take n (map f xs)
-map-take f zero xs = refl
-map-take f (suc n) [] = refl
-map-take f (suc n) (x ∷ xs) = ap (λ l. f x ∷ l) (map-take f n xs)
-
-pub map-more : {A B : Type 0} (f : A → B) (xs : List A) (x : A) → map f (xs ++ x ∷ []) ≡ map f xs ++ f x ∷ []
-map-more f [] x = refl
-map-more f (y ∷ xs) x = ap (λ l. f y ∷ l) (map-more f xs x)
 
 -- ---- more scopes at the end
 
@@ -103,12 +94,8 @@ sound-append known all (f ∷ es) e o i s =
 
 -- ---- by the vector
 
-length-map : {A B : Type 0} (f : A → B) (xs : List A) → length (map f xs) ≡ length xs
-length-map f [] = refl
-length-map f (x ∷ xs) = ap suc (length-map f xs)
-
 pub length-table : (es : List ScopeEntry) (ws : List Widening) → map widening_of es ≡ ws → length (scopes ws) ≡ length es
-length-table es ws v = ap (λ l. length (scopes l)) (sym v) ∙ length-scopes [] (map widening_of es) ∙ length-map widening_of es
+length-table es ws v = ap (λ l. length (scopes l)) (sym v) ∙ length-scopes [] (map widening_of es) ∙ length-map es widening_of
 
 pub at_vector : (es : List ScopeEntry) (ws : List Widening) (n : ℕ) (e : ScopeEntry) → map widening_of es ≡ ws → RestOnOlder [] es
     → n < length es → e ≡ get_or es n e → IsAt (scopes ws) n (scope_at (scopes ws) n) e
@@ -125,13 +112,13 @@ sound_vector es ws e v o s = sound-append [] (scopes ws) es e o (ap scopes (sym 
 pub added : (es new : List ScopeEntry) (ws : List Widening) (e : ScopeEntry) → map widening_of es ≡ ws → new ≡ es ++ e ∷ []
     → scopes (map widening_of new) ≡ scopes ws ++ widened (scopes ws) (widening_of e) ∷ []
 added es new ws e v i =
-    ap (λ l. scopes (map widening_of l)) i ∙ ap scopes (map-more widening_of es e ∙ ap (λ l. l ++ widening_of e ∷ []) v)
+    ap (λ l. scopes (map widening_of l)) i ∙ ap scopes (map-append widening_of es (e ∷ []) ∙ ap (λ l. l ++ widening_of e ∷ []) v)
     ∙ scopes-append [] ws (widening_of e)
 
 pub cut : (es new : List ScopeEntry) (ws : List Widening) (n : ℕ) → map widening_of es ≡ ws → new ≡ take n es
     → scopes (map widening_of new) ≡ take n (scopes ws)
 cut es new ws n v i =
-    ap (λ l. scopes (map widening_of l)) i ∙ ap scopes (map-take widening_of n es) ∙ scopes-take [] n (map widening_of es)
+    ap (λ l. scopes (map widening_of l)) i ∙ ap scopes (sym (take-map widening_of n es)) ∙ scopes-take [] n (map widening_of es)
     ∙ ap (λ l. take n (scopes l)) v
 
 -- ---- the extended scope

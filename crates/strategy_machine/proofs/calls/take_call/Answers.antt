@@ -1,7 +1,8 @@
 use Rattle.std.proofs.Common.{refl, sym, subst}
 use Rattle.strategy_machine.specs.Turns.{state_of}
 use Rattle.strategy_machine.proofs.TakeLemmas.{with_cells, take_failed, take_stops}
-use Rattle.strategy_machine.proofs.CallLemmas.{form_cells, undefined_is, entered, slice_past, slice_there}
+use Rattle.strategy_machine.proofs.CallLemmas.{form_cells, undefined_is, entered, slice_there}
+use Rattle.std.proofs.lemmas.Option.{slice_get_past}
 use Rattle.strategy_machine.specs.inside.Arguments.{AreBuilt}
 use Rattle.strategy_machine.specs.declared.arguments.BuiltAll.{BuiltAll}
 use Rattle.strategy_machine.specs.declared.arguments.BuiltAll.TheVariants.{All}
@@ -18,7 +19,7 @@ pub returns-in-Big-clause-ok : goal.returns-in-Big-clause-ok
 returns-in-Big-clause-ok g c = record { keeps = λ sub whole h. take_stops _ sub whole (state_of c.args.m.now) _ c.args.scope c.args.m.now.part big ((subst (λ (o : BuiltAll). AreBuilt c.args.host.now.room (resolved_patterns_of c.args.patterns.now) (cells_in (scope_at (scopes c.args.m.now.scopes) c.args.scope)) c.args.m.now.cells.bindings c.args.m.now.level c.build_all.new.arguments.items o) c.in-Big.is c.in_ok-built.ensures.ok) c.args.m.now.steps _) h }
 
 pub returns-in-None-clause-ok : goal.returns-in-None-clause-ok
-returns-in-None-clause-ok g c = record { keeps = λ sub whole h. c.fails-in-None.ensures.keeps _ sub whole (with_cells _ sub whole (state_of c.args.m.now) _ c.build_all.ensures.cells (take_failed _ sub whole (state_of c.args.m.now) _ c.args.scope c.args.m.now.part (undefined_is _ (state_of c.args.m.now) c.args.definition (resolveds_of c.args.strategies.now) (resolved_patterns_of c.args.patterns.now) c.args.scope c.args.m.now.part _ (subst (λ (o : BuiltAll). AreBuilt c.args.host.now.room (resolved_patterns_of c.args.patterns.now) (cells_in (scope_at (scopes c.args.m.now.scopes) c.args.scope)) c.args.m.now.cells.bindings c.args.m.now.level c.build_all.new.arguments.items o) c.in-All.is c.in_ok-built.ensures.ok) (slice_past c.args.host.now.definitions.now c.args.definition (c.in-None.ensures.lookup.3))) h)) }
+returns-in-None-clause-ok g c = record { keeps = λ sub whole h. c.fails-in-None.ensures.keeps _ sub whole (with_cells _ sub whole (state_of c.args.m.now) _ c.build_all.ensures.cells (take_failed _ sub whole (state_of c.args.m.now) _ c.args.scope c.args.m.now.part (undefined_is _ (state_of c.args.m.now) c.args.definition (resolveds_of c.args.strategies.now) (resolved_patterns_of c.args.patterns.now) c.args.scope c.args.m.now.part _ (subst (λ (o : BuiltAll). AreBuilt c.args.host.now.room (resolved_patterns_of c.args.patterns.now) (cells_in (scope_at (scopes c.args.m.now.scopes) c.args.scope)) c.args.m.now.cells.bindings c.args.m.now.level c.build_all.new.arguments.items o) c.in-All.is c.in_ok-built.ensures.ok) (slice_get_past c.args.host.now.definitions.now c.args.definition (c.in-None.ensures.lookup.3))) h)) }
 
 pub returns-in_ok-inner-in-Some-get-clause-ok : goal.returns-in_ok-inner-in-Some-get-clause-ok
 returns-in_ok-inner-in-Some-get-clause-ok g c = record {
