@@ -20,7 +20,7 @@ use crate::frames::{Turned, Walk, drop_changed, drop_part, drop_parts, drop_valu
 use crate::heads::is_list as is_list_part;
 use crate::machine::Machine;
 use crate::stack::{First, Frames, Front, Slot};
-use crate::tails::{first_values, in_front, rest_after, rest_of_part, with_rest_after};
+use crate::tails::{first_values, in_front, rest_of_part, with_rest_after};
 use std::alloc::Global;
 use std::mem;
 use strategy_syntax::ResolvedStrategy;
@@ -91,16 +91,12 @@ fn begin_tail<'t>(
     ensures ok { (W : World) → IfOk result (λ next. Gives W (Frame.Tail tail.entry scope count) m.old (Done (node_with m.old.part m.old.parts.items)) m.new next) }
     ensures less { IfOk result (λ next. GiveFalls m.old m.new next) }
 {
-    let list = m.part.value()?;
-    let found = rest_after(alloc, &list, count);
-    drop_value(list);
-    let rest = found?;
+    let rest = rest_of_part(alloc, &m.part, count)?;
     let node = mem::replace(&mut m.part, Part::new(rest));
     let parts = mem::replace(&mut m.parts, Vec::new(alloc));
     let edits = m.trail.count;
-    let front = Front { node, parts };
     m.frames
-        .wait_with_front(Slot::Rest { count, edits }, front)?;
+        .wait_with_front(Slot::Rest { count, edits }, Front { node, parts })?;
     Ok(m.begins(tail, scope))
 }
 
@@ -216,8 +212,8 @@ pub(crate) fn give_head<'t>(
     let child = mem::replace(&mut m.part, Part::new(rest));
     let now = m.trail.count;
     let first = where_changed(child, now != edits);
-    let first = First { node, part: first };
-    m.frames.wait_with_first(Slot::After { edits: now }, first)?;
+    m.frames
+        .wait_with_first(Slot::After { edits: now }, First { node, part: first })?;
     Ok(m.begins(tail, scope))
 }
 

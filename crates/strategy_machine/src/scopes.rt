@@ -317,9 +317,9 @@ fn are_names(strategies: &[ResolvedStrategy]) -> bool
     true
 }
 
-// Whether this is just the name with this number.
+/// Whether this is just the name with this number.
 #[inline(always)]
-fn is_name(strategy: &ResolvedStrategy, x: usize) -> bool
+pub(crate) fn is_name(strategy: &ResolvedStrategy, x: usize) -> bool
     ensures { OnTrue result (strategy.now ≡ param x) }
 {
     match strategy.form() {

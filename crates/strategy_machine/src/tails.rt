@@ -14,20 +14,6 @@ use term_core::{Kind, NoMemory};
 use term_match::is_list;
 use term_values::{Part, Value};
 
-/// The children after the first `count`, as a list without annotations.
-pub(crate) fn rest_after<'t>(
-    alloc: Global,
-    value: &Value<'t>,
-    count: usize,
-) -> Result<Value<'t>, NoMemory>
-    ensures { IfOk result (λ rest. rest ≡ rest_of count value.now) }
-{
-    if count > value.child_count() {
-        return Ok(Value::leaf(Kind::List));
-    }
-    value.rest(alloc, count)
-}
-
 /// The children of a part after the first `count`, as a list without annotations.
 #[inline(always)]
 pub(crate) fn rest_of_part<'t>(

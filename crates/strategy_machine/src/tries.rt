@@ -4,7 +4,7 @@
 ghost use Rattle.std.specs.Prelude.{◌≡◌, ◌<◌, ◌≤◌, ℕ, List, length, IfOk, IfSome};
 ghost use Rattle.std.specs.Bool.{OnTrue};
 ghost use Rattle.term_core.specs.declared.TheConstants.{MAX_ROOM};
-ghost use Rattle.strategy_syntax.specs.Resolved.{ResolvedPattern, ResolvedStrategy, id, param, call, resolveds_of, resolved_patterns_of};
+ghost use Rattle.strategy_syntax.specs.Resolved.{ResolvedPattern, ResolvedStrategy, id, call, resolveds_of, resolved_patterns_of};
 ghost use Rattle.strategy_machine.specs.inside.Tries.{IsTry, IsItself};
 ghost use Rattle.strategy_machine.specs.Table.{scopes as scopes_of};
 ghost use Rattle.strategy_machine.specs.Turns.{world_of};
@@ -13,6 +13,7 @@ ghost use Rattle.strategy_machine.specs.inside.Taking.{Takes, TakeFalls};
 use crate::forms::take_guard;
 use crate::frames::Turned;
 use crate::machine::{Host, Machine};
+use crate::scopes::is_name;
 use prim_core::Meaning;
 use std::alloc::Global;
 use strategy_syntax::{Resolved, ResolvedForm as Form, ResolvedPattern, ResolvedStrategy};
@@ -46,7 +47,7 @@ pub(crate) fn tried<'t>(
     let Form::Guard(parts) = body.strategy.form() else {
         return None;
     };
-    if is_first(&parts.0) && is_id(&parts.1) && is_id(&parts.2) && is_itself(&strategies[0]) {
+    if is_name(&parts.0, 0) && is_id(&parts.1) && is_id(&parts.2) && is_itself(&strategies[0]) {
         return Some(Try {
             first: &strategies[0],
             second: &parts.1,
@@ -54,17 +55,6 @@ pub(crate) fn tried<'t>(
         });
     }
     None
-}
-
-// Whether the strategy is the first strategy name.
-#[inline(always)]
-fn is_first(strategy: &ResolvedStrategy) -> bool
-    ensures { OnTrue result (strategy.now ≡ param 0) }
-{
-    match strategy.form() {
-        Form::Param(name) => *name == 0,
-        _ => false,
-    }
 }
 
 // Whether the strategy is `id`.
