@@ -356,12 +356,6 @@ pub last_each : (zs : List Slot) (us : List Walk) (ss : List Start) (fs : List F
     → EndsWith (Each acts n) all → LastWalk zs us ss fs ks (Each acts n)
 last_each zs us ss fs ks all acts n h e k = last_walk zs us ss fs ks all (Each acts n) refl h e k
 
-pub each_written : {zs : List Slot} {us : List Walk} {ss : List Start} {fs : List Front} {ks : List First} {acts : Acts} {n : ℕ} (r : LastWalk zs us ss fs ks (Each acts n)) (others : Acts) (v : Walk) (i j : ℕ)
-    → i + 1 ≡ length zs → j + 1 ≡ length us
-    → Longer r.front (slice_set zs i (Each others n)) (Each others n) r.outer (slice_set us j v) (v ∷ []) ss ss [] fs fs [] ks ks []
-each_written {zs = zs} {acts = acts} {n = n} r others v i j e f =
-    walk_written r (slice_set zs i (Each others n)) (Each others n) v j refl (set_last r.front zs (Each acts n) (Each others n) i r.slots e) f
-
 pub each_there : {zs : List Slot} {us : List Walk} {ss : List Start} {fs : List Front} {ks : List First} {acts : Acts} {n : ℕ} (r : LastWalk zs us ss fs ks (Each acts n))
     → Longer r.front zs (Each acts n) r.outer us (r.walk ∷ []) ss ss [] fs fs [] ks ks []
 each_there r = walk_there r refl

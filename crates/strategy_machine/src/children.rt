@@ -1,12 +1,14 @@
 //! Strategies on children.
 
-ghost use Rattle.std.specs.Prelude.{◌≡◌, ℕ, suc, ◌-◌, ◌==◌, false, [], ◌∷◌, ◌++◌, cond, length, MatchOption, IfOk, IfSome, OnOk, slice_get, slice_set};
+ghost use Rattle.std.specs.Prelude.{◌≡◌, ◌≤◌, ℕ, suc, ◌-◌, ◌==◌, false, [], ◌∷◌, ◌++◌, cond, length, MatchOption, IfOk, IfSome, OnOk, slice_get, slice_set};
 ghost use Rattle.term_core.specs.Tree.{children};
 ghost use Rattle.term_changes.specs.Standing.{standing_tree, standing_children};
 ghost use Rattle.strategy_meaning.specs.Meaning.{World};
 ghost use Rattle.strategy_machine.specs.Frames.{acts_list};
 ghost use Rattle.strategy_machine.specs.Leading.{PartsStand, all_parts, node_with, parts_now};
+ghost use Rattle.strategy_machine.specs.declared.frames.Acts.TheVariants.{Same};
 ghost use Rattle.strategy_machine.specs.inside.Filling.{Fills};
+ghost use Rattle.strategy_machine.specs.inside.Walks.{StaysSame};
 ghost use Rattle.strategy_machine.specs.Hands.{Each, Leftmost, Those};
 ghost use Rattle.strategy_machine.specs.Turns.{Turn, Falls};
 ghost use Rattle.strategy_machine.specs.inside.Turning.{GoesIn, EndFalls, Descends};
@@ -47,7 +49,8 @@ pub(crate) fn next_act<'t>(acts: Acts<'t>, left: usize) -> Option<(&'t ResolvedS
 /// `next_act` if a child is known to remain.
 #[inline(always)]
 pub(crate) fn first_act<'t>(acts: Acts<'t>) -> Option<(&'t ResolvedStrategy, Acts<'t>)>
-    ensures { IfSome result (λ found. (k : ℕ) → acts_list acts.entry (suc k) ≡ found.0.now ∷ acts_list found.1 k) }
+    ensures first { IfSome result (λ found. (k : ℕ) → acts_list acts.entry (suc k) ≡ found.0.now ∷ acts_list found.1 k) }
+    ensures same { IfSome result (λ found. StaysSame acts.entry found.1) }
 {
     match acts {
         Acts::Same(strategy) => Some((strategy, Acts::Same(strategy))),
@@ -170,7 +173,7 @@ pub(crate) fn settle<'t>(
                 drop_part(part);
                 return Ok(());
             }
-            add(parts, part)?;
+            add(parts, part, node.child_count() - i)?;
             Ok(())
         }
         Err(error) => {
@@ -180,12 +183,14 @@ pub(crate) fn settle<'t>(
     }
 }
 
-// Appends the part.
+// Appends the part. There is room for so many then: in the end a changed node has a part for each
+// child.
 #[inline(always)]
-fn add<'t>(parts: &mut Vec<Part<'t>>, part: Part<'t>) -> Result<(), NoMemory>
+fn add<'t>(parts: &mut Vec<Part<'t>>, part: Part<'t>, room: usize) -> Result<(), NoMemory>
+    requires { 1 ≤ room }
     ensures { OnOk result (parts.new.items ≡ parts.old.items ++ part.entry ∷ []) }
 {
-    match parts.reserve(1) {
+    match parts.reserve_exact(room) {
         Ok(()) => {
             parts.push_reserved(part);
             Ok(())
@@ -241,32 +246,30 @@ pub(crate) fn take_all<'t>(
     if m.part.child_count() == 0 {
         return Ok(m.gives());
     }
-    go_in(alloc, m, strategy, Acts::Same(strategy), scope, 0)
+    go_in(alloc, m, strategy, scope)
 }
 
-/// Begins with the child at this index, whose strategy this is; no child has changed yet.
+/// Begins with the first child, if there is one; no child has changed yet.
 #[inline(never)]
 pub(crate) fn go_in<'t>(
     alloc: Global,
     m: &mut Machine<'t>,
     strategy: &'t ResolvedStrategy,
-    others: Acts<'t>,
     scope: usize,
-    index: usize,
 ) -> Result<Turned, NoMemory>
-    ensures ok { (W : World) (acts : Acts)
-        → acts_list acts (length (children (standing_tree m.old.part)) - index) ≡ strategy.entry.now ∷ acts_list others.entry (length (children (standing_tree m.old.part)) - index - 1)
-        → IfOk result (λ next. GoesIn W m.old acts scope m.old.part index m.new next) }
+    ensures ok { (W : World)
+        → acts_list (Same strategy.entry) (length (children (standing_tree m.old.part)) - 0) ≡ strategy.entry.now ∷ acts_list (Same strategy.entry) (length (children (standing_tree m.old.part)) - 0 - 1)
+        → IfOk result (λ next. GoesIn W m.old (Same strategy.entry) scope m.old.part 0 m.new next) }
     ensures less { IfOk result (λ next. EndFalls m.old m.new next) }
 {
     let parts = Vec::new(alloc);
-    let Some(child) = m.part.child(index)? else {
+    let Some(child) = m.part.child(0)? else {
         drop_parts(parts);
         return Ok(m.fails());
     };
-    let walk = descend(m, child, parts, index)?;
+    let walk = descend(m, child, parts, 0)?;
     let slot = Slot::Each {
-        acts: others,
+        acts: Acts::Same(strategy),
         scope,
     };
     m.frames.wait_with_walk(slot, walk)?;

@@ -12,7 +12,7 @@ ghost use Rattle.strategy_machine.specs.inside.Taking.{Takes, TakeFalls, Replace
 use crate::alternatives::after_rules;
 use crate::children::go_in;
 use crate::choices::{rewrite_or, rule_of, rule_or};
-use crate::frames::{Acts, Turned, drop_value, put};
+use crate::frames::{Turned, drop_value, put};
 use crate::heads::{MOST, left_by_failure};
 use crate::machine::{Host, InTable, Machine};
 use crate::stack::{Slot, Start};
@@ -176,7 +176,7 @@ fn all_first<'t>(
             strategy: second,
             scope,
         })?;
-        return go_in(alloc, m, inner, Acts::Same(inner), scope, 0);
+        return go_in(alloc, m, inner, scope);
     }
     Ok(m.begins(second, scope))
 }

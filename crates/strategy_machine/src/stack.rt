@@ -4,10 +4,13 @@
 //! Functions that take a frame off are small and hold it alone: each value that a function may hold
 //! is cleared where it starts.
 
-ghost use Rattle.std.specs.Prelude.{◌≡◌, ◌+◌, [], ◌∷◌, ◌++◌, length, reverse, true, IfOk, OnOk, MatchOption};
+ghost use Rattle.std.specs.Prelude.{◌≡◌, ◌<◌, ◌+◌, List, [], ◌∷◌, ◌++◌, length, reverse, true, IfOk, OnOk, MatchOption};
 ghost use Rattle.strategy_machine.specs.Trails.{path_of};
 ghost use Rattle.strategy_machine.specs.inside.Slots.{EndsWith, EndsIn, has_walk, has_start, has_front, has_first, is_alone, alone, with_walk, with_start, with_front, with_first};
-ghost use Rattle.strategy_machine.specs.inside.Walks.{LastGoesOn, LastStepsOver};
+ghost use Rattle.strategy_machine.specs.inside.Walks.{LastGoesOn, LastStepsOver, StaysSame};
+ghost use Rattle.strategy_machine.specs.declared.frames.Acts.{Acts};
+ghost use Rattle.strategy_machine.specs.declared.stack.Slot.{Slot};
+ghost use Rattle.strategy_machine.specs.declared.stack.Slot.TheVariants.{Each};
 
 use crate::children::first_act;
 use crate::fail::pass;
@@ -330,11 +333,7 @@ impl<'t> Frames<'t> {
         if !to_next(&mut self.walks[walk], part, edits)? {
             return Ok(None);
         }
-        let slot = self.slots.len() - 1;
-        self.slots[slot] = Slot::Each {
-            acts: others,
-            scope,
-        };
+        put_others(&mut self.slots, others, scope);
         Ok(Some((strategy, scope)))
     }
 
@@ -360,5 +359,22 @@ impl<'t> Frames<'t> {
             path.push(walk.index)?;
         }
         Ok(path)
+    }
+}
+
+// Puts the strategies for the children after the next one into the last slot, which has those from
+// the next one on. A strategy for all children is there already.
+#[inline(always)]
+fn put_others<'t>(slots: &mut Vec<Slot<'t>>, others: Acts<'t>, scope: usize)
+    requires { 0 < length slots.old.items }
+    ensures { (front : List Slot) (acts : Acts) → slots.old.items ≡ front ++ Each acts scope ∷ [] → StaysSame acts others.entry
+        → slots.new.items ≡ front ++ Each others.entry scope ∷ [] }
+{
+    if let Acts::List(_) = others {
+        let last = slots.len() - 1;
+        slots[last] = Slot::Each {
+            acts: others,
+            scope,
+        };
     }
 }

@@ -6,6 +6,7 @@ use Rattle.term_changes.specs.Standing.{Standing}
 use Rattle.strategy_syntax.specs.Resolved.{ResolvedStrategy}
 use Rattle.strategy_machine.specs.Leading.{parts_now, all_parts}
 use Rattle.strategy_machine.specs.declared.frames.Acts.{Acts}
+use Rattle.strategy_machine.specs.declared.frames.Acts.TheVariants.{Same, List as Listed}
 use Rattle.strategy_machine.specs.declared.frames.Walk.{Walk}
 use Rattle.strategy_machine.specs.declared.frames.Frame.{Frame}
 use Rattle.strategy_machine.specs.declared.frames.Frame.TheVariants.{Each}
@@ -22,6 +23,11 @@ pub record StepsOn (w : Walk) (p : Standing) (count : ℕ) (v : Walk) (q : Stand
   pub parts : all_parts w.node v.parts.items
       ≡ cond (not (count == w.edits)) (slice_set (parts_now w.node (walk_parts w)) w.index p) (walk_parts w)
   pub child : slice_get (parts_now w.node (all_parts w.node v.parts.items)) v.index ≡ Some q
+
+-- one strategy for each child is also the one for each child after the first
+abbrev pub StaysSame : Acts → Acts → Type 0
+StaysSame acts (Same s) = acts ≡ Same s
+StaysSame acts (Listed ss) = Unit {0}
 
 -- the frame has strategy s, in scope m, for the next child, and others for the children after it
 abbrev pub HasNext : Frame → Bor ResolvedStrategy → ℕ → Acts → Type 0

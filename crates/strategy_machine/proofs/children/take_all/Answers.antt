@@ -14,4 +14,4 @@ returns-then-child_count-eq0-clause-ok c = λ W. record {
 pub returns-clause-ok : goal.returns-clause-ok
 returns-clause-ok c = λ W. ok_map c.go_in.result (λ next k. record {
   keeps = λ sub whole h. k.keeps sub whole (λ parts none. take_each W sub whole (state_of c.args.m.now) _ (Same c.args.strategy) c.args.scope 0 c.args.m.now.part parts none (all_is W (state_of c.args.m.now) c.args.strategy c.args.scope c.args.m.now.part) h);
-}) (c.go_in.ensures.ok W (Same c.args.strategy) (same_first c.args.strategy _ c.child_count.result c.child_count.ensures c.if-child_count-eq0.false))
+}) (c.go_in.ensures.ok W (same_first c.args.strategy _ c.child_count.result c.child_count.ensures c.if-child_count-eq0.false))

@@ -4,7 +4,6 @@ use Rattle.strategy_machine.proofs.AllLemmas.{same_first, all_spent, all_passed,
 use Rattle.strategy_machine.proofs.ResultLemmas.{ok_map}
 use Rattle.strategy_machine.proofs.OpenLemmas.{pushed}
 use Rattle.strategy_machine.specs.Turns.{state_of}
-use Rattle.strategy_machine.specs.declared.frames.Acts.TheVariants.{Same}
 use Rattle.strategy_machine.proofs.forms.all_first.Goals as goal
 
 pub returns-then-m-eq0-clause-ok : goal.returns-then-m-eq0-clause-ok
@@ -21,4 +20,4 @@ pub returns-then-child_count-ne0-clause-ok : goal.returns-then-child_count-ne0-c
 returns-then-child_count-ne0-clause-ok c = λ W. ok_map c.go_in.result (λ next k. record {
   keeps = λ sub whole h. k.keeps sub whole (λ parts none. with_frames W sub whole (paid (state_of c.args.m.now) (c.args.m.now.steps - 1)) _ _ _ (pushed _ _ _ c.in_ok-wait.ensures.items)
       (all_starts W sub whole (state_of c.args.m.now) c.args.inner c.args.second c.args.scope c.args.m.now.part (c.args.m.now.steps - 1) parts (omega (arith, c.if-m-eq0.false)) none h));
-}) (c.go_in.ensures.ok W (Same c.args.inner) (same_first c.args.inner _ c.child_count.result c.child_count.ensures c.if-child_count-ne0.true))
+}) (c.go_in.ensures.ok W (same_first c.args.inner _ c.child_count.result c.child_count.ensures c.if-child_count-ne0.true))
