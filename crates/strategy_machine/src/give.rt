@@ -6,11 +6,12 @@ ghost use Rattle.strategy_meaning.specs.Meaning.{World};
 ghost use Rattle.term_changes.specs.Standing.{Standing, standing_children, CanHold};
 ghost use Rattle.strategy_machine.specs.Hands.{Done};
 ghost use Rattle.strategy_machine.specs.inside.Slots.{EndsWith};
-ghost use Rattle.strategy_machine.specs.inside.Walks.{StepsOn};
+ghost use Rattle.std.specs.Bool.{OnTrue};
+ghost use Rattle.strategy_machine.specs.inside.Walks.{StepsOn, EndsUnchanged};
 ghost use Rattle.strategy_machine.specs.Turns.{Turn, Falls, Holds};
 ghost use Rattle.strategy_machine.specs.inside.Turning.{ComesUp, Rises};
 
-use crate::children::{child_now, go_on, go_over, settle};
+use crate::children::{child_now, go_on, go_over, next_act, settle};
 use crate::frames::{Acts, Turned, Walk, drop_parts, put, put_parts};
 use crate::lists::{give_after, give_head, give_rest, give_tail};
 use crate::machine::Machine;
@@ -165,7 +166,8 @@ fn come_up<'t>(m: &mut Machine<'t>, walk: Walk<'t>) -> Result<(), NoMemory>
     Ok(())
 }
 
-// Continues with the next child.
+// Continues with the next child. After the last one a node in which nothing changed is the focus
+// at once.
 fn give_each<'t>(
     alloc: Global,
     m: &mut Machine<'t>,
@@ -181,8 +183,39 @@ fn give_each<'t>(
     let Some(next) = walk.index.checked_add(1) else {
         return Err(NoMemory);
     };
+    if ends_unchanged(&walk, m.trail.count, acts, next) {
+        let Walk {
+            node,
+            parts,
+            level,
+            ..
+        } = walk;
+        drop_parts(parts);
+        m.level = level;
+        put(&mut m.part, node);
+        return Ok(m.gives());
+    }
     come_up(m, walk)?;
     go_on(alloc, m, acts, scope, next)
+}
+
+// Whether nothing has changed below the node of a walk, and there is no strategy for a child from
+// this one on.
+#[inline(always)]
+fn ends_unchanged(walk: &Walk<'_>, edits: usize, acts: Acts<'_>, next: usize) -> bool
+    ensures { OnTrue result (EndsUnchanged walk.now edits acts.entry next) }
+{
+    if walk.edits != edits {
+        return false;
+    }
+    if !walk.parts.is_empty() {
+        return false;
+    }
+    let left = walk.node.child_count().saturating_sub(next);
+    match next_act(acts, left) {
+        None => true,
+        Some(_) => false,
+    }
 }
 
 // The strategy succeeded on a child, the leftmost such one.

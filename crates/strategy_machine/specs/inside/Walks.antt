@@ -1,8 +1,9 @@
 -- How the walk of a frame moves on to the next child.
-use Rattle.std.specs.Prelude.{◌≡◌, ℕ, suc, ◌+◌, ◌==◌, not, cond, List, [], ◌∷◌, ◌++◌, slice_get, slice_set, Some, None, MatchOption}
+use Rattle.std.specs.Prelude.{◌≡◌, ℕ, suc, ◌+◌, ◌-◌, length, ◌==◌, not, cond, List, [], ◌∷◌, ◌++◌, slice_get, slice_set, Some, None, MatchOption}
 use Rattle.std.specs.Borrow.{Bor}
 use Rattle.std.specs.declared.option.Option.{Option}
-use Rattle.term_changes.specs.Standing.{Standing}
+use Rattle.term_core.specs.Tree.{children}
+use Rattle.term_changes.specs.Standing.{Standing, standing_tree}
 use Rattle.strategy_syntax.specs.Resolved.{ResolvedStrategy}
 use Rattle.strategy_machine.specs.Leading.{parts_now, all_parts}
 use Rattle.strategy_machine.specs.declared.frames.Acts.{Acts}
@@ -23,6 +24,13 @@ pub record StepsOn (w : Walk) (p : Standing) (count : ℕ) (v : Walk) (q : Stand
   pub parts : all_parts w.node v.parts.items
       ≡ cond (not (count == w.edits)) (slice_set (parts_now w.node (walk_parts w)) w.index p) (walk_parts w)
   pub child : slice_get (parts_now w.node (all_parts w.node v.parts.items)) v.index ≡ Some q
+
+-- Nothing has changed below the node of the walk, and there is no strategy for a child from number
+-- `next` on.
+pub record EndsUnchanged (w : Walk) (count : ℕ) (acts : Acts) (next : ℕ) : Type 0 where
+  pub edits : count ≡ w.edits
+  pub parts : w.parts.items ≡ []
+  pub over : acts_list acts (length (children (standing_tree w.node)) - next) ≡ []
 
 -- one strategy for each child is also the one for each child after the first
 abbrev pub StaysSame : Acts → Acts → Type 0

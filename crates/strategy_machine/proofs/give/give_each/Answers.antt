@@ -1,8 +1,12 @@
-use Rattle.std.proofs.Common.{refl, sym, subst, reverse}
+use Rattle.std.proofs.Common.{◌≡◌, refl, sym, ap, subst, reverse, Bool, cond, not, ◌==◌, slice_set}
+use Rattle.std.proofs.lemmas.Bool.{eq-eqb}
 use Rattle.strategy_machine.proofs.GiveLemmas.{st, give_each}
 use Rattle.strategy_machine.proofs.FormLemmas.{each_stands}
 use Rattle.strategy_machine.proofs.ResultLemmas.{ok_map}
 use Rattle.strategy_machine.proofs.WalkLemmas.{came_up, popped}
+use Rattle.strategy_machine.proofs.ChildLemmas.{each_over}
+use Rattle.strategy_machine.specs.Leading.{parts_now, node_with}
+use Rattle.strategy_machine.specs.Frames.{walk_parts}
 use Rattle.strategy_machine.specs.Table.{scopes}
 use Rattle.strategy_machine.specs.Hands.{Done, Each}
 use Rattle.strategy_machine.specs.Turns.{HoldsIn}
@@ -24,3 +28,17 @@ go_on-requires c = let r = c.requires.run in each_stands c.come_up.new.m (came_u
 
 pub pop_walk-walk-requires : goal.pop_walk-walk-requires
 pop_walk-walk-requires c = (slots.Each c.args.acts c.args.scope, c.requires.last, refl)
+
+pub returns-then-ends_unchanged-clause-ok : goal.returns-then-ends_unchanged-clause-ok
+returns-then-ends_unchanged-clause-ok c =
+    let w = c.pop_walk-walk.result in
+    let m = c.args.m.now in
+    let ended = c.if-ends_unchanged.ensures in
+    λ W. record {
+      keeps = λ sub whole h. c.gives.ensures.keeps W sub whole
+          (subst (λ p. HoldsIn W sub whole (st m.cells (scopes m.scopes) m.trail w.level m.steps (reverse c.pop_walk-walk.new.self)) (Done p)) (sym c.put.ensures)
+          (each_over W sub whole _ c.args.acts c.args.scope c.in-Some.next _ w.node w.node w.parts refl ended.over (ap (λ l. node_with w.node l) (sym ended.parts))
+          (give_each W sub whole _ _ _ _ _ _ c.args.acts c.args.scope c.in-Some.next w m.part w.parts (c.in-Some.ensures.1)
+          (ap (λ (b : Bool). cond (not b) (slice_set (parts_now w.node (walk_parts w)) w.index m.part) (walk_parts w)) (sym (eq-eqb m.trail.count w.edits ended.edits)))
+          (popped W sub whole m (Done m.part) c.pop_walk-walk.new.self (frames.Each c.args.acts c.args.scope w) (c.pop_walk-walk.ensures.items (slots.Each c.args.acts c.args.scope) c.requires.last) h))));
+    }
