@@ -200,7 +200,23 @@ impl<'t> Value<'t> {
     }
 
     /// The root.
+    #[inline(always)]
     pub fn kind(&self) -> Kind<'_>
+        ensures { self.now ≡ made_of result (children self.now) (annotations self.now) }
+    {
+        match &self.form {
+            Form::Original(term) => {
+                let term: &'t Term = *term;
+                term.kind()
+            }
+            Form::Rest(_, _) => Kind::List,
+            Form::Joined(_) => Kind::List,
+            _ => self.any_kind(),
+        }
+    }
+
+    // `kind`, whatever the form.
+    fn any_kind(&self) -> Kind<'_>
         ensures { self.now ≡ made_of result (children self.now) (annotations self.now) }
     {
         match &self.form {
@@ -218,7 +234,7 @@ impl<'t> Value<'t> {
             Form::Kept(changed) => changed.kind(),
             Form::BareKept(changed) => changed.kind(),
             Form::Joined(_) => Kind::List,
-            Form::Annotated(annotated) => annotated.node.kind(),
+            Form::Annotated(annotated) => annotated.node.any_kind(),
         }
     }
 

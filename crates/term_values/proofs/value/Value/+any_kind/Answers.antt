@@ -5,7 +5,7 @@ use Rattle.term_values.specs.declared.value.Made.{Made}
 use Rattle.term_values.specs.declared.value.Annotated.{Annotated}
 use Rattle.term_values.specs.inside.ValueView.{form_tree, top_tree, items_list, front_list, annotation_list}
 use Rattle.term_values.proofs.KindLemmas.{kind-made_of, kind-with_annotations, kind_along}
-use Rattle.term_values.proofs.value.Value.+kind.Goals as goal
+use Rattle.term_values.proofs.value.Value.+any_kind.Goals as goal
 
 pub returns-in-Built : goal.returns-in-Built
 returns-in-Built t c =
@@ -19,11 +19,11 @@ returns-in-Built t c =
 pub returns-in-Annotated : goal.returns-in-Annotated
 returns-in-Annotated t c =
     let n = c.in-Annotated.annotated.value in
-    let k = c.kind-in-Annotated.result in
+    let k = c.any_kind.result in
     let whole = ap form_tree (sym c.in-Annotated.is) ∙ c.self.view_is in
     let same = ap (λ (x : Annotated). x.node) c.deref-in-Annotated.ensures in
     kind_along k _ c.args.self.now whole
-    (kind-with_annotations k n.node (annotation_list n.annotations) (kind_along k _ n.node same c.kind-in-Annotated.ensures))
+    (kind-with_annotations k n.node (annotation_list n.annotations) (kind_along k _ n.node same c.any_kind.ensures))
 
 pub returns-in-Rest : goal.returns-in-Rest
 returns-in-Rest t c =
