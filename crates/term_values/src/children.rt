@@ -39,6 +39,17 @@ impl<'t> Value<'t> {
     fn other_child(&self, i: usize) -> Result<Option<Value<'t>>, NoMemory>
         ensures { IfOk result (λ child. child ≡ slice_get (children self.now) i) }
     {
+        if let Form::Kept(changed) = &self.form {
+            return changed.child(i);
+        }
+        self.any_child(i)
+    }
+
+    // `child`, whatever the form.
+    #[inline(never)]
+    fn any_child(&self, i: usize) -> Result<Option<Value<'t>>, NoMemory>
+        ensures { IfOk result (λ child. child ≡ slice_get (children self.now) i) }
+    {
         let within = self.child_bounds();
         self.elements().value_at(i, within)
     }

@@ -3,7 +3,7 @@
 
 ghost use Rattle.std.specs.Prelude.{◌≡◌, IfOk, map, slice_get, slice_set};
 ghost use Rattle.term_core.specs.Tree.{children, annotations, with_children};
-ghost use Rattle.term_changes.specs.Standing.{standing_tree, standing_children, unchanged, altered, fresh, SuitAll, CanHold, with_standing};
+ghost use Rattle.term_changes.specs.Standing.{after, standing_tree, standing_children, unchanged, altered, fresh, SuitAll, CanHold, with_standing};
 ghost use Rattle.term_values.specs.inside.Bounded.{Bounded, AllBounded, AllWithin};
 
 use crate::bounds::Bounds;
@@ -171,6 +171,13 @@ impl<'t> Changed<'t> {
         part_at(self.parts.as_slice(), i)
     }
 
+    /// Child `i` of the tree, counted from 0, or `None` if there is none.
+    pub(crate) fn child(&self, i: usize) -> Result<Option<Value<'t>>, NoMemory>
+        ensures { IfOk result (λ child. child ≡ slice_get (children (after self.now)) i) }
+    {
+        tree_at(self.parts.as_slice(), i)
+    }
+
     fn all_parts(&self, alloc: Global) -> Result<Vec<Part<'t>>, NoMemory>
         ensures { IfOk result (λ all. all.items ≡ standing_children (altered self.now)) }
     {
@@ -236,6 +243,17 @@ fn part_at<'t>(parts: &[Part<'t>], i: usize) -> Result<Option<Part<'t>>, NoMemor
         return Ok(None);
     }
     Ok(Some(parts[i].try_clone()?))
+}
+
+// The tree of part `i`, if there is one.
+#[inline(always)]
+fn tree_at<'t>(parts: &[Part<'t>], i: usize) -> Result<Option<Value<'t>>, NoMemory>
+    ensures { IfOk result (λ tree. tree ≡ slice_get (map standing_tree parts.now) i) }
+{
+    if i >= parts.len() {
+        return Ok(None);
+    }
+    Ok(Some(parts[i].value()?))
 }
 
 fn share_parts<'t>(alloc: Global, parts: &[Part<'t>]) -> Result<Vec<Part<'t>>, NoMemory>
