@@ -111,6 +111,22 @@ impl Bounds {
         }
     }
 
+    /// Bounds of a part that lies a level lower: the height alone.
+    pub(crate) fn lower(self) -> Bounds
+        ensures { (s h r k : ℕ) → Covers s h self → k + 1 ≤ h → Covers r k result }
+    {
+        let height = if self.height == u16::MAX {
+            u16::MAX
+        } else {
+            self.height.saturating_sub(1)
+        };
+        Bounds {
+            size: u32::MAX,
+            height,
+            exact: false,
+        }
+    }
+
     /// Bounds of trees that are within these and the others.
     pub(crate) fn both(self, others: Bounds) -> Bounds
         ensures { (s h : ℕ) → Covers s h self → Covers s h others → Covers s h result }
@@ -119,17 +135,6 @@ impl Bounds {
             size: self.size.min(others.size),
             height: self.height.min(others.height),
             exact: self.exact || others.exact,
-        }
-    }
-
-    /// The bound of the height, and none of the size.
-    pub(crate) fn of_any_size(self) -> Bounds
-        ensures { (s r h : ℕ) → Covers s h self → Covers r h result }
-    {
-        Bounds {
-            size: u32::MAX,
-            height: self.height,
-            exact: false,
         }
     }
 

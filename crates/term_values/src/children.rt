@@ -90,11 +90,10 @@ impl<'t> Value<'t> {
         requires { count ≡ length (children self.now) }
         ensures { AllWithin (children self.now) result }
     {
-        let below = self.bounds.less(count, 1);
         if count > FEW {
-            below.of_any_size()
+            self.bounds.lower()
         } else {
-            below
+            self.bounds.less(count, 1)
         }
     }
 }

@@ -206,12 +206,12 @@ fn changed_part<'t>(alloc: Global, of: &'t Term, parts: Vec<Part<'t>>) -> Result
     })
 }
 
-// Bounds that hold for each child of a subterm.
-fn child_bounds(term: &Term, bounds: Bounds) -> Bounds
-    requires { Bounded term.now bounds }
-    ensures { AllWithin (children term.now) result }
+// Bounds that hold for each child of a subterm. Of an unchanged one no size is known.
+fn child_bounds(_term: &Term, bounds: Bounds) -> Bounds
+    requires { Bounded _term.now bounds }
+    ensures { AllWithin (children _term.now) result }
 {
-    bounds.less(term.child_count(), 1)
+    bounds.lower()
 }
 
 // Bounds of the trees of these parts together.

@@ -7,7 +7,7 @@ use Rattle.term_values.proofs.places.child_bounds.Goals as goal
 
 pub returns : goal.returns
 returns c =
-    let t = c.args.term.now in
-    within_all (children t) c.less.result (length (children t)) (size t) (height t)
-    (λ u p q. c.less.ensures (size t) (height t) (size u) (height u) c.requires (omega (arith, p, c.child_count.ensures)) q)
+    let t = c.args._term.now in
+    within_all (children t) c.lower.result (length (children t)) (size t) (height t)
+    (λ u p q. c.lower.ensures (size t) (height t) (size u) (height u) c.requires q)
     (omega (arith, size_parts t)) (omega (arith, height_parts t))

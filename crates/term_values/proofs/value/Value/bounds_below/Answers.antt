@@ -9,14 +9,14 @@ pub returns-else-count-gt-FEW : goal.returns-else-count-gt-FEW
 returns-else-count-gt-FEW c =
     let t = c.args.self.now in
     let mine = bounded_along _ t c.self.inside.bounds c.self.view_is c.self.invariant.bounded in
-    within_all (children t) c.less-below.result (length (children t)) (size t) (height t)
-    (λ u p q. c.less-below.ensures (size t) (height t) (size u) (height u) mine (omega (arith, p, c.requires)) q)
+    within_all (children t) c.less.result (length (children t)) (size t) (height t)
+    (λ u p q. c.less.ensures (size t) (height t) (size u) (height u) mine (omega (arith, p, c.requires)) q)
     (omega (arith, size_parts t)) (omega (arith, height_parts t))
 
 pub returns-then-count-gt-FEW : goal.returns-then-count-gt-FEW
 returns-then-count-gt-FEW c =
     let t = c.args.self.now in
     let mine = bounded_along _ t c.self.inside.bounds c.self.view_is c.self.invariant.bounded in
-    within_all (children t) c.of_any_size.result (length (children t)) (size t) (height t)
-    (λ u p q. c.of_any_size.ensures (size u) (size u) (height u) (c.less-below.ensures (size t) (height t) (size u) (height u) mine (omega (arith, p, c.requires)) q))
+    within_all (children t) c.lower.result (length (children t)) (size t) (height t)
+    (λ u p q. c.lower.ensures (size t) (height t) (size u) (height u) mine q)
     (omega (arith, size_parts t)) (omega (arith, height_parts t))
