@@ -1,7 +1,7 @@
 //! Values to owned terms, and terms to values.
 #![tactic(auto, using(crate::proofs::KindLemmas::node_parts))]
 
-ghost use Rattle.std.specs.Prelude.{◌≡◌, [], List, IfOk, IfSome};
+ghost use Rattle.std.specs.Prelude.{◌≡◌, ◌<◌, ◌++◌, ◌∷◌, [], List, IfOk, true, false, vec_len, vec_capacity};
 ghost use Rattle.term_core.specs.Tree.{Tree};
 ghost use Rattle.term_core.specs.Kind.{made_of};
 ghost use Rattle.term_values.specs.inside.ValueView.{top_tree};
@@ -105,32 +105,35 @@ fn all_owned(alloc: Global, elements: Elements<'_, '_>) -> Result<Vec<Term>, NoM
     let mut all = Vec::with_capacity(alloc, left.first_run_len())?;
     while let Some(seen) = left.next() {
         all.reserve(1)?;
-        let term = match plain(alloc, seen)? {
-            Some(term) => term,
-            None => owned(alloc, seen)?,
-        };
-        all.push_reserved(term);
+        if !add_plain(alloc, seen, &mut all)? {
+            let term = owned(alloc, seen)?;
+            all.push_reserved(term);
+        }
     }
     Ok(all)
 }
 
-// An owned term, if this is a subterm of the borrowed term or a node without children.
+// Appends an owned term, for which there is room, if this is a subterm of the borrowed term or a
+// node without children. Returns whether it is.
 #[inline(always)]
-fn plain(alloc: Global, seen: Seen<'_, '_>) -> Result<Option<Term>, NoMemory>
-    ensures { IfOk result (λ found. IfSome found (λ term. term ≡ seen_tree seen.entry)) }
+fn add_plain(alloc: Global, seen: Seen<'_, '_>, all: &mut Vec<Term>) -> Result<bool, NoMemory>
+    requires { vec_len all.old < vec_capacity all.old }
+    ensures added { IfOk result (λ added. added ≡ true → all.new.items ≡ all.old.items ++ seen_tree seen.entry ∷ []) }
+    ensures not { IfOk result (λ added. added ≡ false → all.new ≡ all.old) }
 {
     match seen {
-        Seen::Term(term) => Ok(Some(term.try_clone()?)),
+        Seen::Term(term) => all.push_reserved(term.try_clone()?),
         Seen::Value(value) => match &value.form {
-            Form::Leaf(kind) => Ok(Some(leaf(alloc, *kind)?)),
+            Form::Leaf(kind) => all.push_reserved(leaf(alloc, *kind)?),
             Form::Original(term) => {
                 let term: &Term = *term;
-                Ok(Some(term.try_clone()?))
+                all.push_reserved(term.try_clone()?);
             }
-            _ => Ok(None),
+            _ => return Ok(false),
         },
-        Seen::Part(_) => Ok(None),
+        Seen::Part(_) => return Ok(false),
     }
+    Ok(true)
 }
 
 // An owned term of this kind without children and annotations.
