@@ -71,7 +71,122 @@ impl<'t> Cells<'t> {
             }
             drop(value);
         }
+        self.build_parts(alloc, variables, pattern, level, room)
+    }
+
+    // `build` of a pattern with parts.
+    #[inline(never)]
+    fn build_parts<P: VariableCells>(
+        &mut self,
+        alloc: Global,
+        variables: &P,
+        pattern: &'t ResolvedPattern,
+        level: u64,
+        room: u32,
+    ) -> Result<Built<'t>, NoMemory>
+        requires { room ≤ MAX_ROOM }
+        ensures same { self.new ≡ self.old }
+        ensures ok { IfOk result (λ built. Builds (build_pattern pattern.now (P.cells variables.now) self.old.bindings) room level built) }
+    {
+        if let Some(value) = self.flat(alloc, variables, pattern)? {
+            if value.surely_fits(level, room) {
+                return Ok(Built::Value(value));
+            }
+            drop(value);
+        } else {
+            if !self.has_instance(variables, pattern) {
+                return Ok(Built::Nothing);
+            }
+            let Some(value) = self.instance(alloc, variables, pattern)? else {
+                return Ok(Built::Nothing);
+            };
+            if value.surely_fits(level, room) {
+                return Ok(Built::Value(value));
+            }
+            drop(value);
+        }
         self.build_measured(alloc, variables, pattern, level, room)
+    }
+
+    // The instance of a pattern with one or two parts, if there is one and the parts are those that
+    // `at_once` and `last` can build. Memory is taken only when all of them have an instance.
+    #[inline(always)]
+    fn flat<P: VariableCells>(
+        &self,
+        alloc: Global,
+        variables: &P,
+        pattern: &'t ResolvedPattern,
+    ) -> Result<Option<Value<'t>>, NoMemory>
+        ensures { IfOk result (λ found. IfSome found (λ value. build_pattern pattern.now (P.cells variables.now) self.now.bindings ≡ Some value)) }
+    {
+        match pattern.form() {
+            ResolvedPatternForm::Compound(head, parts) => {
+                if parts.len() == 1 {
+                    let Some(only) = self.last(alloc, variables, &parts[0])? else {
+                        return Ok(None);
+                    };
+                    return Ok(Some(Value::one(alloc, kind_of(head), only)?));
+                }
+                if parts.len() == 2 {
+                    let Some(first) = self.at_once(variables, &parts[0])? else {
+                        return Ok(None);
+                    };
+                    let Some(second) = self.last(alloc, variables, &parts[1])? else {
+                        return Ok(None);
+                    };
+                    return Ok(Some(Value::two(alloc, kind_of(head), first, second)?));
+                }
+                Ok(None)
+            }
+            _ => self.last(alloc, variables, pattern),
+        }
+    }
+
+    // `at_once`, also for a pattern without parts in front of another as a tail.
+    #[inline(always)]
+    fn last<P: VariableCells>(
+        &self,
+        alloc: Global,
+        variables: &P,
+        pattern: &'t ResolvedPattern,
+    ) -> Result<Option<Value<'t>>, NoMemory>
+        ensures { IfOk result (λ found. IfSome found (λ value. build_pattern pattern.now (P.cells variables.now) self.now.bindings ≡ Some value)) }
+    {
+        match pattern.form() {
+            ResolvedPatternForm::WithTail(parts, tail) => self.one_before(
+                alloc, variables, parts, tail,
+            ),
+            _ => self.at_once(variables, pattern),
+        }
+    }
+
+    // The list of one instance in front of the elements of another, if `at_once` builds both.
+    #[inline(never)]
+    fn one_before<P: VariableCells>(
+        &self,
+        alloc: Global,
+        variables: &P,
+        parts: &'t [ResolvedPattern],
+        tail: &'t ResolvedPattern,
+    ) -> Result<Option<Value<'t>>, NoMemory>
+        ensures { IfOk result (λ found. IfSome found (λ value.
+            build_pattern (with_tail (resolved_patterns_of parts.now) tail.now) (P.cells variables.now) self.now.bindings ≡ Some value)) }
+    {
+        if parts.len() != 1 {
+            return Ok(None);
+        }
+        let Some(after) = self.at_once(variables, tail)? else {
+            return Ok(None);
+        };
+        if !is_list(&after) {
+            return Ok(None);
+        }
+        let Some(first) = self.at_once(variables, &parts[0])? else {
+            return Ok(None);
+        };
+        // a list of more elements than `usize` can count would find no memory
+        let _count = after.child_count().checked_add(1).ok_or(NoMemory)?;
+        Ok(Some(Value::cons_owned(alloc, first, after)?))
     }
 
     // The instance of a variable or of a pattern without parts, if there is one.
@@ -109,17 +224,14 @@ impl<'t> Cells<'t> {
         ensures same { self.new ≡ self.old }
         ensures ok { IfOk result (λ built. Builds (build_pattern pattern.now (P.cells variables.now) self.old.bindings) room level built) }
     {
-        if !is_flat(pattern) && !self.has_instance(variables, pattern) {
-            return Ok(Built::Nothing);
-        }
         'measure: for limit in LIMITS {
+            self.measure(variables, pattern, u64::from(limit.min(room)));
             let Some(value) = self.instance(alloc, variables, pattern)? else {
                 return Ok(Built::Nothing);
             };
             if value.surely_fits(level, room) {
                 return Ok(Built::Value(value));
             }
-            self.measure(variables, pattern, u64::from(limit.min(room)));
             drop(value);
             if limit >= room {
                 break;
@@ -347,26 +459,6 @@ impl<'t> Cells<'t> {
             None => None,
             Some(i) => self.get(i),
         }
-    }
-}
-
-// Whether a pattern has at most two parts, none of which has parts: then memory is taken only if
-// all have an instance.
-fn is_flat(pattern: &ResolvedPattern) -> bool {
-    match pattern.form() {
-        ResolvedPatternForm::Compound(_, parts) => parts.len() <= 2
-            && parts.iter().all(|p| has_no_parts(p)),
-        _ => false,
-    }
-}
-
-// Whether the pattern is a variable, an integer or a head without parts.
-fn has_no_parts(pattern: &ResolvedPattern) -> bool {
-    match pattern.form() {
-        ResolvedPatternForm::Variable(_) => true,
-        ResolvedPatternForm::Integer(_) => true,
-        ResolvedPatternForm::Compound(_, parts) => parts.is_empty(),
-        _ => false,
     }
 }
 
