@@ -10,6 +10,7 @@ ghost use Rattle.term_values.specs.inside.Shape.{JoinedShape};
 ghost use Rattle.term_values.specs.inside.ValueView.{front_list};
 
 use crate::build::all_bounds;
+use crate::elements::terms_after;
 use crate::value::{Form, Front, Joined, Single, Value};
 use std::alloc::Global;
 use std::rc::Rc;
@@ -26,7 +27,21 @@ const SMALL: u64 = 32;
 
 impl<'t> Value<'t> {
     /// The list of the children without the first `skipped`, and without annotations.
+    #[inline(always)]
     pub fn rest(&self, alloc: Global, skipped: usize) -> Result<Value<'t>, NoMemory>
+        requires { skipped ≤ length (children self.now) }
+        ensures { IfOk result (λ value. value ≡ list_term (drop skipped (children self.now))) }
+    {
+        if let Form::Rest(term, before) = &self.form {
+            if 0 < skipped && skipped < terms_after(*term, *before).len() {
+                return Ok(self.rest_after(*term, *before, skipped));
+            }
+        }
+        self.other_rest(alloc, skipped)
+    }
+
+    // `rest`, whatever the form.
+    fn other_rest(&self, alloc: Global, skipped: usize) -> Result<Value<'t>, NoMemory>
         requires { skipped ≤ length (children self.now) }
         ensures { IfOk result (λ value. value ≡ list_term (drop skipped (children self.now))) }
     {
@@ -47,11 +62,11 @@ impl<'t> Value<'t> {
                     let rest = joined_rest(alloc, list, skipped)?;
                     Ok(self.bounded_rest(rest, skipped))
                 } else {
-                    let rest = list.after.rest(alloc, skipped - count)?;
+                    let rest = list.after.other_rest(alloc, skipped - count)?;
                     Ok(self.bounded_rest(rest, skipped))
                 }
             }
-            Form::Annotated(annotated) => annotated.node.rest(alloc, skipped),
+            Form::Annotated(annotated) => annotated.node.other_rest(alloc, skipped),
             _ => {
                 let all = self.share_children(alloc)?;
                 chunked(alloc, all, skipped, Value::leaf(Kind::List))

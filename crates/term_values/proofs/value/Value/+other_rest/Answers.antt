@@ -5,10 +5,10 @@ use Rattle.term_values.specs.declared.value.Form.{Form}
 use Rattle.term_values.specs.declared.value.Joined.{Joined}
 use Rattle.term_values.specs.inside.ValueView.{form_tree, form_shape, front_list}
 use Rattle.term_values.proofs.ListLemmas.{list_children, joined_falls, after_within, rest_of_after}
-use Rattle.term_values.proofs.value.Value.+rest.Goals as goal
+use Rattle.term_values.proofs.value.Value.+other_rest.Goals as goal
 
-pub rest-requires : goal.rest-requires
-rest-requires t c =
+pub other_rest-requires : goal.other_rest-requires
+other_rest-requires t c =
     let m = c.in-Joined.joined.value in
     let e = c.as_ref-list.ensures in
     let shape = subst (λ (f : Form). form_shape f) c.in-Joined.is c.self.invariant.shape in
