@@ -7,7 +7,7 @@ ghost use Rattle.term_core.specs.Kind.{made_of};
 ghost use Rattle.term_values.specs.inside.ValueView.{top_tree};
 ghost use Rattle.term_values.specs.inside.Walk.{seen_tree};
 
-use crate::elements::{Elements, Seen};
+use crate::elements::{Elements, Run, Seen};
 use crate::value::{Form, Top, Value};
 use std::alloc::Global;
 use std::rc::Rc;
@@ -87,6 +87,14 @@ fn own_top<'t>(alloc: Global, kind: Kind<'_>) -> Result<Top<'t>, NoMemory>
 fn owned(alloc: Global, seen: Seen<'_, '_>) -> Result<Term, NoMemory>
     ensures { IfOk result (λ term. term ≡ seen_tree seen.entry) }
 {
+    // most nodes that rules make are of this form
+    if let Seen::Value(value) = seen {
+        if let Form::Built(made) = &value.form {
+            let items = Elements::alone(Run::Values(made.items.as_slice()));
+            let children = all_owned(alloc, items)?;
+            return node(alloc, made.top.kind(), children);
+        }
+    }
     let children = all_owned(alloc, seen.elements())?;
     let bare = node(alloc, seen.kind(), children)?;
     let annotations = seen.annotation_run();

@@ -272,7 +272,7 @@ pub(crate) fn bounds_of(term: &Term, within: Bounds) -> Bounds
 }
 
 impl<'t> Top<'t> {
-    fn kind(&self) -> Kind<'_>
+    pub(crate) fn kind(&self) -> Kind<'_>
         ensures { (us ns : List Tree) → top_tree self.now us ns ≡ made_of result us ns }
     {
         match self {
