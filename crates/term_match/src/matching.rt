@@ -249,6 +249,7 @@ impl<'t> Cells<'t> {
     }
 
     // `bind`, consuming the value.
+    #[inline(always)]
     fn bind_owned<P: VariableCells>(
         &mut self,
         variables: &P,
