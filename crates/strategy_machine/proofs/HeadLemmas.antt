@@ -1,13 +1,13 @@
 -- Failures that the root of a term shows, form by form.
-use Rattle.std.proofs.Common.{◌≡◌, ℕ, ◌+◌, List, [], ◌∷◌, ◌++◌, length, map, replicate, refl, sym, ap, ◌∙◌, subst, arith, Some, None, false, Bor, slice_get}
+use Rattle.std.proofs.Common.{◌≡◌, ℕ, ◌+◌, List, [], ◌∷◌, ◌++◌, length, map, replicate, refl, sym, ap, ◌∙◌, subst, arith, Some, None, false, Bor, slice_get, cond, true}
 use Rattle.std.specs.declared.option.Option.{Option}
-use Rattle.term_core.specs.Tree.{Head, Tree}
+use Rattle.term_core.specs.Tree.{Head, Tree, children}
 use Rattle.term_changes.specs.Standing.{Standing, standing_tree}
-use Rattle.strategy_syntax.specs.Resolved.{ResolvedPattern, no_resolved_patterns, ResolvedStrategy, fail, matches, seq, guard, test, scope, param, call, congruence, tail_congruence, ResolvedStrategies, resolved_list, resolveds_of, resolved_patterns_of}
+use Rattle.strategy_syntax.specs.Resolved.{ResolvedPattern, compound, no_resolved_patterns, ResolvedStrategy, fail, matches, seq, guard, test, scope, param, call, congruence, tail_congruence, ResolvedStrategies, resolved_list, resolveds_of, resolved_patterns_of}
 use Rattle.strategy_syntax.proofs.ResolvedLemmas.{resolved_list-resolveds_of}
 use Rattle.strategy_syntax.specs.declared.resolved.Resolved.{Resolved}
 use Rattle.strategy_meaning.specs.Scopes.{Scope, inside, Closure, cells_in, stands_for, with_variables, arguments, numbers_from}
-use Rattle.strategy_meaning.specs.Matching.{Bindings, elements}
+use Rattle.strategy_meaning.specs.Matching.{Bindings, elements, is_headed, match_pattern, match_patterns}
 use Rattle.strategy_meaning.specs.Answer.{Answer, failed, either, if_done, with_edits, and_then, done}
 use Rattle.strategy_meaning.specs.Meaning.{World, run, form, with_some, cut, is_over, is_list_from, enter}
 use Rattle.strategy_machine.specs.Table.{scope_at, closure_of}
@@ -147,3 +147,9 @@ not_list_many ss t e = ap (λ (l : List ResolvedStrategy). is_list_from (length 
 pub no_patterns : (ps : List ResolvedPattern) → length ps ≡ 0 → resolved_patterns_of ps ≡ no_resolved_patterns
 no_patterns [] e = refl
 no_patterns (p ∷ ps) e = absurd (omega (arith, e))
+
+-- a head without parts matches a term with this head and no children, and binds nothing
+pub whole_leaf : (h : Head) (ps : List ResolvedPattern) (t : Tree) → length ps ≡ 0 → is_headed h t ≡ true → children t ≡ [] → (E : List ℕ) (B : Bindings)
+    → match_pattern (compound h (resolved_patterns_of ps)) t E B ≡ Some B
+whole_leaf h ps t none head leaf E B =
+    (λ i. cond (head i) (match_patterns (no_patterns ps none i) (leaf i) E B) None)

@@ -11,7 +11,7 @@ ghost use Rattle.strategy_machine.specs.inside.Rules.{IsRule};
 ghost use Rattle.strategy_machine.specs.inside.Taking.{Takes, TakeFalls};
 
 use crate::alternatives::after_rules;
-use crate::forms::replace;
+use crate::forms::{matches_now, replace};
 use crate::frames::{Turned, drop_value};
 use crate::heads::misses;
 use crate::machine::{InTable, Machine};
@@ -42,20 +42,14 @@ pub(crate) fn rewrite_or<'t>(
         return Ok(Turned::Spent);
     }
     m.steps -= 2;
-    if misses(left, &m.part) {
-        return Ok(m.goes_on(other, scope));
-    }
     let mark = m.cells.mark();
-    let value = m.part.value()?;
     let variables = InTable {
         scopes: &m.scopes,
         scope,
     };
-    let found = m.cells.matches(alloc, &variables, left, &value);
-    drop_value(value);
+    let found = matches_now(alloc, &mut m.cells, &variables, left, &m.part);
     let matched = found?;
     if !matched {
-        m.cells.back_to(mark);
         return Ok(m.goes_on(other, scope));
     }
     if m.steps == 0 {

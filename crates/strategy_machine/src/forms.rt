@@ -1,6 +1,9 @@
 //! Matching, building, sequences, choices and tests.
 
-ghost use Rattle.std.specs.Prelude.{◌<◌, ◌≤◌, length, IfOk, OnOk};
+ghost use Rattle.std.specs.Prelude.{◌≡◌, ◌<◌, ◌≤◌, length, cond, false, Some, None, IfOk, OnOk};
+ghost use Rattle.strategy_meaning.specs.Matching.{match_pattern};
+ghost use Rattle.term_changes.specs.Standing.{standing_tree};
+ghost use Rattle.term_match.specs.Marks.{mark_of, Before, Stays};
 ghost use Rattle.term_core.specs.declared.TheConstants.{MAX_ROOM};
 ghost use Rattle.strategy_syntax.specs.Resolved.{matches, builds, param, seq, guard, test, all};
 ghost use Rattle.strategy_meaning.specs.Laws.{in_room};
@@ -13,14 +16,14 @@ use crate::alternatives::after_rules;
 use crate::children::go_in;
 use crate::choices::{rewrite_or, rule_of, rule_or};
 use crate::frames::{Turned, drop_value, put};
-use crate::heads::{MOST, left_by_failure};
+use crate::heads::{MOST, RootMatch, glance, left_by_failure};
 use crate::machine::{Host, InTable, Machine};
 use crate::stack::{Slot, Start};
 use prim_core::Meaning;
 use std::alloc::Global;
 use strategy_syntax::{ResolvedForm as Form, ResolvedPattern, ResolvedStrategy};
 use term_core::NoMemory;
-use term_match::Built;
+use term_match::{Built, Cells, VariableCells};
 use term_values::{Part, Value};
 
 /// A match of a pattern.
@@ -33,17 +36,43 @@ pub(crate) fn take_match<'t>(
     ensures ok { (W : World) → IfOk result (λ next. Takes W m.old (matches pattern.entry.now) scope m.old.part m.new next) }
     ensures less { IfOk result (λ next. TakeFalls m.old m.new next) }
 {
-    let value = m.part.value()?;
     let variables = InTable {
         scopes: &m.scopes,
         scope,
     };
-    let matched = m.cells.matches(alloc, &variables, pattern, &value);
-    drop_value(value);
+    let matched = matches_now(alloc, &mut m.cells, &variables, pattern, &m.part);
     if matched? {
         Ok(m.gives())
     } else {
         Ok(m.fails())
+    }
+}
+
+/// Whether the pattern matches the part, as `Cells::matches` of its value. The root alone may show
+/// it.
+#[inline(always)]
+pub(crate) fn matches_now<'t, P: VariableCells>(
+    alloc: Global,
+    cells: &mut Cells<'t>,
+    variables: &P,
+    pattern: &ResolvedPattern,
+    part: &Part<'t>,
+) -> Result<bool, NoMemory>
+    ensures ok { IfOk result (λ yes. match_pattern pattern.now (standing_tree part.now) (P.cells variables.now) cells.old.bindings
+        ≡ cond yes (Some cells.new.bindings) None) }
+    ensures no { IfOk result (λ yes. yes ≡ false → cells.new ≡ cells.old) }
+    ensures later { Before (mark_of cells.old) (mark_of cells.new) }
+    ensures stays { Stays (mark_of cells.old) cells.old cells.new }
+{
+    match glance(pattern, part) {
+        RootMatch::Misses => Ok(false),
+        RootMatch::Matches => Ok(true),
+        RootMatch::Open => {
+            let value = part.value()?;
+            let matched = cells.matches(alloc, variables, pattern, &value);
+            drop_value(value);
+            matched
+        }
     }
 }
 
@@ -197,13 +226,11 @@ fn match_first<'t>(
         return Ok(Turned::Spent);
     }
     m.steps -= 1;
-    let value = m.part.value()?;
     let variables = InTable {
         scopes: &m.scopes,
         scope,
     };
-    let matched = m.cells.matches(alloc, &variables, pattern, &value);
-    drop_value(value);
+    let matched = matches_now(alloc, &mut m.cells, &variables, pattern, &m.part);
     if matched? {
         Ok(m.begins(second, scope))
     } else {

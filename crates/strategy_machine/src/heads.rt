@@ -8,7 +8,8 @@ ghost use Rattle.term_changes.specs.Standing.{standing_tree};
 ghost use Rattle.strategy_machine.specs.Table.{scopes as scopes_of};
 ghost use Rattle.strategy_syntax.specs.Heads.{head_of};
 ghost use Rattle.strategy_meaning.specs.Matching.{is_integer as is_this_integer, is_headed as has_head, elements};
-ghost use Rattle.strategy_machine.specs.inside.Missing.{Misses, FailsAhead};
+ghost use Rattle.strategy_syntax.specs.Resolved.{compound, resolved_patterns_of};
+ghost use Rattle.strategy_machine.specs.inside.Missing.{Misses, FailsAhead, Shows};
 
 use crate::alternatives::{after_rules, left_side};
 use crate::congruence::{is_list_from, is_over};
@@ -123,6 +124,49 @@ pub(crate) fn misses(pattern: &ResolvedPattern, part: &Part<'_>) -> bool
     ensures { OnTrue result (Misses pattern.now (standing_tree part.now)) }
 {
     rules_out(pattern, part.kind())
+}
+
+/// What the root shows of a match.
+#[derive(Clone, Copy)]
+pub(crate) enum RootMatch {
+    /// The pattern doesn't match.
+    Misses,
+    /// It matches, and binds nothing.
+    Matches,
+    /// Its parts decide.
+    Open,
+}
+
+/// What the root of a part shows of a match of this pattern.
+#[inline(always)]
+pub(crate) fn glance(pattern: &ResolvedPattern, part: &Part<'_>) -> RootMatch
+    ensures { Shows result pattern.now (standing_tree part.now) }
+{
+    if let ResolvedPatternForm::Compound(head, parts) = pattern.form() {
+        return glance_at(head, parts, part);
+    }
+    if misses(pattern, part) {
+        RootMatch::Misses
+    } else {
+        RootMatch::Open
+    }
+}
+
+// `glance` for a pattern with this head over these parts.
+#[inline(always)]
+fn glance_at(head: &Head, parts: &[ResolvedPattern], part: &Part<'_>) -> RootMatch
+    ensures { Shows result (compound (head_of head.now) (resolved_patterns_of parts.now)) (standing_tree part.now) }
+{
+    if !is_headed(head, part.kind()) {
+        return RootMatch::Misses;
+    }
+    if parts.len() != 0 {
+        return RootMatch::Open;
+    }
+    if part.child_count() != 0 {
+        return RootMatch::Open;
+    }
+    RootMatch::Matches
 }
 
 /// Whether the root of the pattern shows that no term of this kind matches it.
