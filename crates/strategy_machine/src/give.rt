@@ -24,7 +24,6 @@ use term_match::Mark;
 use term_values::Part;
 
 /// Gives a success to the innermost frame.
-#[inline(always)]
 pub(crate) fn give_done<'t>(alloc: Global, m: &mut Machine<'t>) -> Result<Turned, NoMemory>
     requires { (W : World) × (sub : Standing) × (whole : Answer) × Holds W sub whole m.old (Done m.old.part) }
     ensures ok { (W : World) → IfOk result (λ next. Turn W m.old (Done m.old.part) m.new next) }
