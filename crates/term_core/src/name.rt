@@ -2,6 +2,7 @@
 
 ghost use Rattle.std.specs.Prelude.{◌≡◌, ◌↔◌, ◌≤◌, ◌⊎◌, IsTrue, IfOk, IfSome, Ok, Some, None, true, false, length};
 ghost use Rattle.std.specs.List.{list_all, prefix_len};
+ghost use Rattle.std.specs.Str.{bytes_eq};
 ghost use Rattle.term_core.specs.Word.{begins_word, continues_word, is_word, first_word};
 ghost use Rattle.term_core.specs.inside.NameView.{spelling_of, stands_in_quotes, IsText};
 
@@ -68,7 +69,7 @@ impl PartialEq for Name {
 
     #[inline(always)]
     fn eq(&self, other: &Name) -> bool {
-        self.is_quoted() == other.is_quoted() && self.bytes() == other.bytes()
+        self.is_quoted() == other.is_quoted() && same_bytes(self.bytes(), other.bytes())
     }
 }
 
@@ -91,6 +92,21 @@ impl Hash for Name {
     fn hash<H: Hasher>(&self, state: &mut H) {
         self.bytes().hash(state);
     }
+}
+
+// Whether these are the same bytes. Most names that aren't equal differ in length or in the first
+// byte, which is seen without a call.
+#[inline(always)]
+fn same_bytes(left: &[u8], right: &[u8]) -> bool
+    ensures { result ≡ bytes_eq left.now right.now }
+{
+    if left.len() != right.len() {
+        return false;
+    }
+    if !left.is_empty() && left[0] != right[0] {
+        return false;
+    }
+    left == right
 }
 
 /// Whether a word may begin with this byte: an ASCII letter or `_`.
