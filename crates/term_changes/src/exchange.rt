@@ -21,6 +21,7 @@ pub(crate) struct Left {
 
 /// Exchanges at the last of these places, which is in this tree.
 #[cycle(exchange)]
+#[inline(always)]
 pub(crate) fn exchange_item(marks: &[PlaceMark], terms: &mut [Term], tree: &mut Term) -> Left
     requires some { 0 < length marks.now }
     requires whole { AreWhole (reverse marks.now) (length terms.old) }
@@ -67,6 +68,7 @@ fn pass_item(marks: &[PlaceMark], terms: &mut [Term]) -> Left
 
 // Exchanges at the last so many of these places, which are below these children.
 #[cycle(exchange)]
+#[inline(never)]
 fn exchange_kids(
     marks: &[PlaceMark],
     kids: usize,
@@ -100,6 +102,7 @@ fn exchange_kids(
 // Exchanges at the last of these places, which is below a child from number `at` on. That is then
 // the child after it.
 #[cycle(exchange)]
+#[inline(always)]
 fn exchange_kid(
     marks: &[PlaceMark],
     terms: &mut [Term],
