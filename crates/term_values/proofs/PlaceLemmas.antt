@@ -1,15 +1,12 @@
 -- Parts in the places of children.
-use Rattle.std.proofs.Common.{◌≡◌, ℕ, ◌+◌, ◌-◌, ◌<◌, ◌≤◌, List, [], ◌∷◌, ◌++◌, length, map, take, drop, get_or, slice_set, Some, refl, sym, ap, ◌∙◌, subst, arith, zero, suc, append_assoc, length-append}
+use Rattle.std.proofs.Common.{◌≡◌, ℕ, ◌+◌, ◌<◌, ◌≤◌, List, [], ◌∷◌, ◌++◌, length, map, take, get_or, slice_set, Some, refl, sym, ap, ◌∙◌, arith, zero, suc}
 use Rattle.std.specs.List.{slice_get}
-use Rattle.std.proofs.lemmas.List.{map-append, take_more, drop_more}
-use Rattle.std.proofs.Math.Seq.{take-append_seam}
+use Rattle.std.proofs.lemmas.List.{map-append, take_more}
 use Rattle.term_core.specs.Tree.{Tree, of_list, children, annotations, with_children}
 use Rattle.term_core.specs.Size.{height, heights}
-use Rattle.term_paths.specs.Edits.{Edits, prefixed}
-use Rattle.term_changes.specs.Change.{below, places, places_from, changed_all}
-use Rattle.term_changes.specs.Standing.{Altered, after, Standing, unchanged, fresh, Suits, SuitAll, stand_all, standing_tree, standing_change, standing_changes, standing_children, with_standing}
-use Rattle.term_changes.specs.Entries.{Entry}
-use Rattle.term_changes.specs.Putting.{entry_at, entries_at, HasPlaces, HaveAllPlaces}
+use Rattle.term_changes.specs.Change.{changed_all}
+use Rattle.term_changes.specs.Standing.{Altered, after, Standing, unchanged, fresh, SuitAll, stand_all, standing_tree, standing_changes, standing_children, with_standing}
+use Rattle.term_changes.specs.Putting.{HaveAllPlaces}
 use Rattle.term_changes.proofs.NodeLemmas.{annotations-with_children}
 use Rattle.term_changes.proofs.StandingLemmas.{suits_stand_all, altered_children}
 use Rattle.term_values.specs.declared.bounds.Bounds.{Bounds}

@@ -98,9 +98,9 @@ impl<'t> Value<'t> {
     }
 }
 
-// Term `i`, counted from 0, of terms that are within these bounds.
+/// Term `i`, counted from 0, of terms that are within these bounds.
 #[inline(always)]
-fn original_at<'t>(terms: &'t [Term], i: usize, within: Bounds) -> Option<Value<'t>>
+pub(crate) fn original_at<'t>(terms: &'t [Term], i: usize, within: Bounds) -> Option<Value<'t>>
     requires { AllWithin terms.now within }
     ensures { result ≡ slice_get terms.now i }
 {

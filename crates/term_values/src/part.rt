@@ -11,6 +11,7 @@ use crate::bounds::Bounds;
 use crate::value::{Form, Pair, Single, Value};
 use std::alloc::Global;
 use std::marker::Model;
+use std::mem;
 use std::rc::Rc;
 use term_core::{Kind, NoMemory, Term};
 
@@ -104,22 +105,22 @@ impl<'t> Changed<'t> {
 }
 
 impl<'t> Parts<'t> {
-    pub(crate) fn new(all: Vec<Part<'t>>) -> Parts<'t>
-        ensures { parts_list result ≡ all.entry.items }
+    /// Takes the parts out of the vector, which keeps its memory if there are one or two.
+    pub(crate) fn taken(alloc: Global, all: &mut Vec<Part<'t>>) -> Parts<'t>
+        ensures { parts_list result ≡ all.old.items }
     {
-        let mut left = all;
-        if left.len() == 1 {
-            let only = left.take_last();
+        if all.len() == 1 {
+            let only = all.take_last();
             return Parts::One(Single { items: [only] });
         }
-        if left.len() == 2 {
-            let second = left.take_last();
-            let first = left.take_last();
+        if all.len() == 2 {
+            let second = all.take_last();
+            let first = all.take_last();
             return Parts::Two(Pair {
                 items: [first, second],
             });
         }
-        Parts::Many(left)
+        Parts::Many(mem::replace(all, Vec::new(alloc)))
     }
 
     pub(crate) fn as_slice(&self) -> &[Part<'t>]

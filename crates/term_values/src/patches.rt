@@ -73,7 +73,8 @@ fn make_room(parts: &[Part<'_>], draft: &mut Draft) -> Result<(), NoMemory>
     if parts.len() <= FEW {
         return Ok(());
     }
-    draft.reserve(changed_count(parts))
+    // the node takes a place, too
+    draft.reserve(changed_count(parts).saturating_add(1))
 }
 
 // How many of the parts have places.

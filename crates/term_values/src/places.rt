@@ -8,6 +8,7 @@ ghost use Rattle.term_values.specs.inside.Bounded.{Bounded, AllBounded, AllWithi
 
 use crate::bounds::Bounds;
 use crate::build::put_at;
+use crate::children::original_at;
 use crate::part::{Changed, Part, PartForm, Parts};
 use crate::value::{Items, Pair, Single, Value, bounds_of};
 use std::alloc::Global;
@@ -26,6 +27,10 @@ impl<'t> Part<'t> {
                 let term: &'t Term = *term;
                 Ok(same_at(term.children(), i, child_bounds(term, *bounds)))
             }
+            PartForm::New(value) => match value.child(i)? {
+                Some(child) => Ok(Some(Part::new(child))),
+                None => Ok(None),
+            },
             _ => {
                 // the result of a call lies in memory: it is moved, so that the child above needn't
                 let child = self.other_child(i)?;
@@ -52,6 +57,21 @@ impl<'t> Part<'t> {
         }
     }
 
+    /// Child `i` of the tree, counted from 0, or `None` if there is none. It takes no memory.
+    #[inline(always)]
+    pub fn child_tree(&self, i: usize) -> Result<Option<Value<'t>>, NoMemory>
+        ensures { IfOk result (λ child. child ≡ slice_get (children (standing_tree self.now)) i) }
+    {
+        match &self.form {
+            PartForm::Same(term, bounds) => {
+                let term: &'t Term = *term;
+                Ok(original_at(term.children(), i, child_bounds(term, *bounds)))
+            }
+            PartForm::Inside(changed, _) => changed.child(i),
+            PartForm::New(value) => value.child(i),
+        }
+    }
+
     /// What took the places of the children, the first child first.
     pub fn parts(&self, alloc: Global) -> Result<Vec<Part<'t>>, NoMemory>
         ensures { IfOk result (λ all. all.items ≡ standing_children self.now) }
@@ -74,6 +94,17 @@ impl<'t> Part<'t> {
     pub fn with_parts(&self, alloc: Global, parts: Vec<Part<'t>>) -> Result<Part<'t>, NoMemory>
         requires { CanHold self.now parts.items }
         ensures { IfOk result (λ whole. whole ≡ with_standing self.now parts.entry.items) }
+    {
+        let mut left = parts;
+        self.over_parts(alloc, &mut left)
+    }
+
+    /// This part's root over these parts, which leave the vector. If there are one or two, the
+    /// vector keeps its memory.
+    #[inline(always)]
+    pub fn over_parts(&self, alloc: Global, parts: &mut Vec<Part<'t>>) -> Result<Part<'t>, NoMemory>
+        requires { CanHold self.now parts.old.items }
+        ensures { IfOk result (λ whole. whole ≡ with_standing self.now parts.old.items) }
     {
         match &self.form {
             PartForm::Same(term, _) => changed_part(alloc, *term, parts),
@@ -100,18 +131,17 @@ impl<'t> Part<'t> {
 fn value_over<'t>(
     alloc: Global,
     value: &Value<'t>,
-    parts: Vec<Part<'t>>,
+    parts: &mut Vec<Part<'t>>,
 ) -> Result<Value<'t>, NoMemory>
-    ensures { IfOk result (λ whole. whole ≡ with_children value.now (map standing_tree parts.entry.items)) }
+    ensures { IfOk result (λ whole. whole ≡ with_children value.now (map standing_tree parts.old.items)) }
 {
-    let mut left = parts;
-    if left.len() == 1 {
-        let only = left.take_last().into_value();
+    if parts.len() == 1 {
+        let only = parts.take_last().into_value();
         return value.with_items(alloc, Items::One(Single { items: [only] }));
     }
-    if left.len() == 2 {
-        let second = left.take_last().into_value();
-        let first = left.take_last().into_value();
+    if parts.len() == 2 {
+        let second = parts.take_last().into_value();
+        let first = parts.take_last().into_value();
         return value.with_items(
             alloc,
             Items::Two(Pair {
@@ -119,7 +149,8 @@ fn value_over<'t>(
             }),
         );
     }
-    let children = part_values(alloc, left.as_slice())?;
+    let children = part_values(alloc, parts.as_slice())?;
+    parts.clear();
     value.with_children(alloc, children)
 }
 
@@ -187,9 +218,13 @@ impl<'t> Changed<'t> {
 
 // A subterm with these parts in the places of its children.
 #[inline(always)]
-fn changed_part<'t>(alloc: Global, of: &'t Term, parts: Vec<Part<'t>>) -> Result<Part<'t>, NoMemory>
-    requires { SuitAll (children of.now) parts.items }
-    ensures { IfOk result (λ part. part ≡ with_standing (unchanged of.now) parts.entry.items) }
+fn changed_part<'t>(
+    alloc: Global,
+    of: &'t Term,
+    parts: &mut Vec<Part<'t>>,
+) -> Result<Part<'t>, NoMemory>
+    requires { SuitAll (children of.now) parts.old.items }
+    ensures { IfOk result (λ part. part ≡ with_standing (unchanged of.now) parts.old.items) }
 {
     let bounds = parts_bounds(parts.as_slice())
         .and(annotation_bounds(of))
@@ -198,7 +233,7 @@ fn changed_part<'t>(alloc: Global, of: &'t Term, parts: Vec<Part<'t>>) -> Result
         alloc,
         Changed {
             of,
-            parts: Parts::new(parts),
+            parts: Parts::taken(alloc, parts),
         },
     )?;
     Ok(Part {
@@ -215,7 +250,20 @@ fn child_bounds(_term: &Term, bounds: Bounds) -> Bounds
 }
 
 // Bounds of the trees of these parts together.
+#[inline(always)]
 fn parts_bounds(parts: &[Part<'_>]) -> Bounds
+    ensures { AllBounded (map standing_tree parts.now) result }
+{
+    if parts.len() == 2 {
+        let first = Bounds::of_none().and(parts[0].bounds());
+        return first.and(parts[1].bounds());
+    }
+    many_bounds(parts)
+}
+
+// The same for any number of parts.
+#[inline(never)]
+fn many_bounds(parts: &[Part<'_>]) -> Bounds
     ensures { AllBounded (map standing_tree parts.now) result }
 {
     let mut all = Bounds::of_none();

@@ -1,4 +1,5 @@
-use Rattle.std.proofs.Common.{List, map, take, sym, subst}
+use Rattle.std.proofs.Common.{◌≡◌, List, [], ◌∷◌, ◌++◌, map, take, ap, sym, subst, arith, ◌∙◌}
+use Rattle.std.proofs.lemmas.List.{take_all}
 use Rattle.term_core.specs.Tree.{Tree, of_list}
 use Rattle.term_core.specs.Size.{height, heights, size, sizes}
 use Rattle.term_changes.specs.Standing.{standing_tree}
@@ -7,14 +8,17 @@ use Rattle.term_values.proofs.SizeLemmas.{all_bounded_more}
 use Rattle.term_values.proofs.PlaceLemmas.{trees_more}
 use Rattle.term_values.proofs.places.parts_bounds.Goals as goal
 
-pub loop-part-preserved : goal.loop-part-preserved
-loop-part-preserved c =
-    let i = c.loop-part.part-index in
+pub returns-then-parts-eq2 : goal.returns-then-parts-eq2
+returns-then-parts-eq2 c =
     let ps = c.args.parts.now in
-    let p = c.part-item.result in
-    let done = map standing_tree (take i ps) in
+    let p = c.index-parts-0.result in
+    let q = c.index-parts-1.result in
     let v = standing_tree p in
-    let b = c.and-all.result in
-    let both = c.and-all.ensures.covers (sizes (of_list done)) (heights (of_list done)) (size v) (height v) c.loop-part.invariant c.bounds.ensures in
-    subst (λ (us : List Tree). AllBounded us b) (sym (trees_more ps i p c.loop-part-test.true c.part-item.is))
-    (all_bounded_more done v b both)
+    let w = standing_tree q in
+    let one = all_bounded_more [] v c.and-first.result (c.and-first.ensures.covers 0 0 (size v) (height v) c.of_none.ensures.covers c.bounds.ensures) in
+    let two = all_bounded_more (v ∷ []) w c.and.result
+    (c.and.ensures.covers (sizes (of_list (v ∷ []))) (heights (of_list (v ∷ []))) (size w) (height w) one c.bounds-then-parts-eq2.ensures) in
+    let first : map standing_tree (take 1 ps) ≡ v ∷ [] = trees_more ps 0 p (omega (arith, c.if-parts-eq2.true)) c.index-parts-0.is in
+    let both : map standing_tree ps ≡ v ∷ w ∷ [] = ap (map standing_tree) (sym (take_all 2 ps (omega (arith, c.if-parts-eq2.true))))
+    ∙ trees_more ps 1 q (omega (arith, c.if-parts-eq2.true)) c.index-parts-1.is ∙ ap (λ (us : List Tree). us ++ w ∷ []) first in
+    subst (λ (us : List Tree). AllBounded us c.and.result) (sym both) two

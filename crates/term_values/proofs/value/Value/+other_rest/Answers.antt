@@ -1,4 +1,4 @@
-use Rattle.std.proofs.Common.{◌≡◌, ◌++◌, ◌-◌, IfOk, ap, sym, ◌∙◌, arith, subst, length, drop}
+use Rattle.std.proofs.Common.{◌++◌, ◌-◌, ap, sym, ◌∙◌, arith, subst, length, drop}
 use Rattle.term_core.specs.Tree.{Tree, children, list_term}
 use Rattle.term_core.specs.Size.{size}
 use Rattle.term_values.specs.declared.value.Form.{Form}
