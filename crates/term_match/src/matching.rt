@@ -5,7 +5,9 @@ ghost use Rattle.term_core.specs.Tree.{children, annotations, bare, list_term};
 ghost use Rattle.strategy_syntax.specs.Resolved.{resolved_patterns_of};
 ghost use Rattle.strategy_meaning.specs.Matching.{match_pattern, match_patterns, bind, elements, is_integer, is_headed};
 ghost use Rattle.term_match.specs.inside.Binding.{Says};
+ghost use Rattle.term_changes.specs.Standing.{standing_tree};
 ghost use Rattle.term_match.specs.Marks.{mark_of, Before, Stays};
+ghost use Rattle.term_match.specs.Heads.{SharesHead};
 ghost use Rattle.term_match.specs.inside.Growing.{Grows};
 
 use crate::cells::Cells;
@@ -13,7 +15,7 @@ use crate::variables::VariableCells;
 use std::alloc::Global;
 use strategy_syntax::{Head, ResolvedPattern, ResolvedPatternForm};
 use term_core::{Kind, NoMemory};
-use term_values::Value;
+use term_values::{Part, Value};
 
 // The state of a variable's cell, compared with a term.
 enum Said {
@@ -53,6 +55,89 @@ impl<'t> Cells<'t> {
                 Err(refused)
             }
         }
+    }
+
+    /// `matches` for the tree of a part. If the pattern is a head over parts, the tree has to have
+    /// that head, which isn't compared again.
+    #[inline(always)]
+    pub fn matches_below<P: VariableCells>(
+        &mut self,
+        alloc: Global,
+        variables: &P,
+        pattern: &ResolvedPattern,
+        part: &Part<'t>,
+    ) -> Result<bool, NoMemory>
+        requires { SharesHead pattern.now (standing_tree part.now) }
+        ensures ok { IfOk result (λ yes. match_pattern pattern.now (standing_tree part.now) (P.cells variables.now) self.old.bindings
+            ≡ cond yes (Some self.new.bindings) None) }
+        ensures no { IfOk result (λ yes. yes ≡ false → self.new ≡ self.old) }
+        ensures err { OnErr result (self.new ≡ self.old) }
+        ensures later { Before (mark_of self.old) (mark_of self.new) }
+        ensures stays { Stays (mark_of self.old) self.old self.new }
+    {
+        let mark = self.mark();
+        match self.match_below(alloc, variables, pattern, part) {
+            Ok(true) => Ok(true),
+            Ok(false) => {
+                self.back_to(mark);
+                Ok(false)
+            }
+            Err(refused) => {
+                self.back_to(mark);
+                Err(refused)
+            }
+        }
+    }
+
+    // The same, but without a match some variables may have been bound.
+    #[inline(never)]
+    fn match_below<P: VariableCells>(
+        &mut self,
+        alloc: Global,
+        variables: &P,
+        pattern: &ResolvedPattern,
+        part: &Part<'t>,
+    ) -> Result<bool, NoMemory>
+        requires { SharesHead pattern.now (standing_tree part.now) }
+        ensures ok { IfOk result (λ yes. match_pattern pattern.now (standing_tree part.now) (P.cells variables.now) self.old.bindings
+            ≡ cond yes (Some self.new.bindings) None) }
+        ensures grows { Grows self.old self.new }
+    {
+        if let ResolvedPatternForm::Compound(_head, parts) = pattern.form() {
+            if part.child_count() != parts.len() {
+                return Ok(false);
+            }
+            return self.match_parts(alloc, variables, parts, part);
+        }
+        let value = part.value()?;
+        let matched = self.match_part(alloc, variables, pattern, &value);
+        drop(value);
+        matched
+    }
+
+    // Matches the first children of a part's tree, each with a pattern.
+    #[inline(always)]
+    fn match_parts<P: VariableCells>(
+        &mut self,
+        alloc: Global,
+        variables: &P,
+        patterns: &[ResolvedPattern],
+        part: &Part<'t>,
+    ) -> Result<bool, NoMemory>
+        ensures ok { IfOk result (λ yes. match_patterns (resolved_patterns_of patterns.now)
+            (take (length patterns.now) (children (standing_tree part.now))) (P.cells variables.now) self.old.bindings
+            ≡ cond yes (Some self.new.bindings) None) }
+        ensures grows { Grows self.old self.new }
+    {
+        for i in 0..patterns.len() {
+            let Some(child) = part.child_tree(i)? else {
+                return Ok(false);
+            };
+            if !self.match_child(alloc, variables, &patterns[i], child)? {
+                return Ok(false);
+            }
+        }
+        Ok(true)
     }
 
     // Matches the value. Without a match some variables may have been bound.
