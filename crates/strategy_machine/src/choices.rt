@@ -11,9 +11,9 @@ ghost use Rattle.strategy_machine.specs.inside.Rules.{IsRule};
 ghost use Rattle.strategy_machine.specs.inside.Taking.{Takes, TakeFalls};
 
 use crate::alternatives::after_rules;
-use crate::forms::{matches_now, replace};
-use crate::frames::{Turned, drop_value};
-use crate::heads::misses;
+use crate::forms::{matches_shown, replace};
+use crate::frames::Turned;
+use crate::heads::{RootMatch, glance};
 use crate::machine::{InTable, Machine};
 use std::alloc::Global;
 use strategy_syntax::{Resolved, ResolvedForm as Form, ResolvedPattern, ResolvedStrategy};
@@ -47,7 +47,8 @@ pub(crate) fn rewrite_or<'t>(
         scopes: &m.scopes,
         scope,
     };
-    let found = matches_now(alloc, &mut m.cells, &variables, left, &m.part);
+    let shown = glance(left, &m.part);
+    let found = matches_shown(alloc, &mut m.cells, &variables, left, &m.part, shown);
     let matched = found?;
     if !matched {
         return Ok(m.goes_on(other, scope));
@@ -158,7 +159,8 @@ pub(crate) fn rule_or<'t>(
         return Ok(Turned::Spent);
     }
     m.steps -= rule.price;
-    if misses(rule.left, &m.part) {
+    let shown = glance(rule.left, &m.part);
+    if let RootMatch::Misses = shown {
         let passed = after_rules(other, &m.part, m.steps);
         m.steps = passed.1;
         return Ok(m.goes_on(passed.0, scope));
@@ -171,13 +173,11 @@ pub(crate) fn rule_or<'t>(
     let scopes = m.scopes.count();
     m.cells.open_cells(rule.count)?;
     let inner = m.scopes.add_variables(rule.outer, first, rule.count)?;
-    let value = m.part.value()?;
     let variables = InTable {
         scopes: &m.scopes,
         scope: inner,
     };
-    let found = m.cells.matches(alloc, &variables, rule.left, &value);
-    drop_value(value);
+    let found = matches_shown(alloc, &mut m.cells, &variables, rule.left, &m.part, shown);
     let matched = found?;
     if !matched {
         m.cells.back_to(mark);

@@ -10,6 +10,7 @@ ghost use Rattle.strategy_meaning.specs.Laws.{in_room};
 ghost use Rattle.strategy_meaning.specs.Meaning.{World};
 ghost use Rattle.strategy_machine.specs.Table.{scopes as scopes_of};
 ghost use Rattle.strategy_machine.specs.Turns.{world_of};
+ghost use Rattle.strategy_machine.specs.inside.Missing.{Shows};
 ghost use Rattle.strategy_machine.specs.inside.Taking.{Takes, TakeFalls, Replaced};
 
 use crate::alternatives::after_rules;
@@ -40,7 +41,8 @@ pub(crate) fn take_match<'t>(
         scopes: &m.scopes,
         scope,
     };
-    let matched = matches_now(alloc, &mut m.cells, &variables, pattern, &m.part);
+    let shown = glance(pattern, &m.part);
+    let matched = matches_shown(alloc, &mut m.cells, &variables, pattern, &m.part, shown);
     if matched? {
         Ok(m.gives())
     } else {
@@ -48,31 +50,28 @@ pub(crate) fn take_match<'t>(
     }
 }
 
-/// Whether the pattern matches the part, as `Cells::matches` of its value. The root alone may show
-/// it.
+/// Whether the pattern matches the part, as `Cells::matches` of its value, given what the root
+/// shows of it.
 #[inline(always)]
-pub(crate) fn matches_now<'t, P: VariableCells>(
+pub(crate) fn matches_shown<'t, P: VariableCells>(
     alloc: Global,
     cells: &mut Cells<'t>,
     variables: &P,
     pattern: &ResolvedPattern,
     part: &Part<'t>,
+    shown: RootMatch,
 ) -> Result<bool, NoMemory>
+    requires { Shows shown pattern.now (standing_tree part.now) }
     ensures ok { IfOk result (λ yes. match_pattern pattern.now (standing_tree part.now) (P.cells variables.now) cells.old.bindings
         ≡ cond yes (Some cells.new.bindings) None) }
     ensures no { IfOk result (λ yes. yes ≡ false → cells.new ≡ cells.old) }
     ensures later { Before (mark_of cells.old) (mark_of cells.new) }
     ensures stays { Stays (mark_of cells.old) cells.old cells.new }
 {
-    match glance(pattern, part) {
+    match shown {
         RootMatch::Misses => Ok(false),
         RootMatch::Matches => Ok(true),
-        RootMatch::Open => {
-            let value = part.value()?;
-            let matched = cells.matches(alloc, variables, pattern, &value);
-            drop_value(value);
-            matched
-        }
+        RootMatch::Open => cells.matches_below(alloc, variables, pattern, part),
     }
 }
 
@@ -230,7 +229,8 @@ fn match_first<'t>(
         scopes: &m.scopes,
         scope,
     };
-    let matched = matches_now(alloc, &mut m.cells, &variables, pattern, &m.part);
+    let shown = glance(pattern, &m.part);
+    let matched = matches_shown(alloc, &mut m.cells, &variables, pattern, &m.part, shown);
     if matched? {
         Ok(m.begins(second, scope))
     } else {

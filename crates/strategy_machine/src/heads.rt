@@ -133,7 +133,7 @@ pub(crate) enum RootMatch {
     Misses,
     /// It matches, and binds nothing.
     Matches,
-    /// Its parts decide.
+    /// The rest decides.
     Open,
 }
 
@@ -142,13 +142,26 @@ pub(crate) enum RootMatch {
 pub(crate) fn glance(pattern: &ResolvedPattern, part: &Part<'_>) -> RootMatch
     ensures { Shows result pattern.now (standing_tree part.now) }
 {
-    if let ResolvedPatternForm::Compound(head, parts) = pattern.form() {
-        return glance_at(head, parts, part);
-    }
-    if misses(pattern, part) {
-        RootMatch::Misses
-    } else {
-        RootMatch::Open
+    match pattern.form() {
+        ResolvedPatternForm::Compound(head, parts) => glance_at(head, parts, part),
+        ResolvedPatternForm::Integer(number) => {
+            if is_integer(*number, part.kind()) {
+                RootMatch::Open
+            } else {
+                RootMatch::Misses
+            }
+        }
+        ResolvedPatternForm::WithTail(_, _) => {
+            if is_list(part) {
+                RootMatch::Open
+            } else {
+                RootMatch::Misses
+            }
+        }
+        ResolvedPatternForm::Wildcard => RootMatch::Open,
+        ResolvedPatternForm::Variable(_) => RootMatch::Open,
+        ResolvedPatternForm::At(_, _) => RootMatch::Open,
+        ResolvedPatternForm::Annotated(_, _) => RootMatch::Open,
     }
 }
 

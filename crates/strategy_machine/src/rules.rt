@@ -8,8 +8,9 @@ ghost use Rattle.strategy_machine.specs.Table.{scopes as scopes_of};
 ghost use Rattle.strategy_syntax.specs.Resolved.{scope as scope_form, seq, matches, builds};
 ghost use Rattle.strategy_machine.specs.inside.Taking.{Takes, TakeFalls};
 
-use crate::forms::replace;
-use crate::frames::{Turned, drop_value};
+use crate::forms::{matches_shown, replace};
+use crate::frames::Turned;
+use crate::heads::glance;
 use crate::machine::{InTable, Machine};
 use std::alloc::Global;
 use strategy_syntax::ResolvedPattern;
@@ -43,13 +44,12 @@ pub(crate) fn take_rule<'t>(
     let scopes = m.scopes.count();
     m.cells.open_cells(count)?;
     let inner = m.scopes.add_variables(Some(scope), first, count)?;
-    let value = m.part.value()?;
     let variables = InTable {
         scopes: &m.scopes,
         scope: inner,
     };
-    let found = m.cells.matches(alloc, &variables, left, &value);
-    drop_value(value);
+    let shown = glance(left, &m.part);
+    let found = matches_shown(alloc, &mut m.cells, &variables, left, &m.part, shown);
     let matched = found?;
     if !matched {
         m.cells.close_to(first);

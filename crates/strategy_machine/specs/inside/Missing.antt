@@ -8,6 +8,7 @@ use Rattle.strategy_meaning.specs.Scopes.{Scope, stands_for}
 use Rattle.strategy_meaning.specs.Matching.{Bindings, match_pattern}
 use Rattle.strategy_meaning.specs.Answer.{failed}
 use Rattle.strategy_meaning.specs.Meaning.{World, run}
+use Rattle.term_match.specs.Heads.{SharesHead}
 use Rattle.strategy_machine.specs.Table.{scope_at}
 use Rattle.strategy_machine.specs.declared.heads.RootMatch.{RootMatch}
 use Rattle.strategy_machine.specs.declared.heads.RootMatch.TheVariants as glances
@@ -20,7 +21,7 @@ pub record Misses (p : ResolvedPattern) (t : Tree) : Type 0 where
 abbrev pub Shows : RootMatch → ResolvedPattern → Tree → Type 0
 Shows glances.Misses p t = Misses p t
 Shows glances.Matches p t = (E : List ℕ) (B : Bindings) → match_pattern p t E B ≡ Some B
-Shows glances.Open p t = Unit {0}
+Shows glances.Open p t = SharesHead p t
 
 -- the strategy names of the scope are those of scope n, if n is known
 abbrev pub HasNames : List Scope → Option ℕ → Scope → Type 0
