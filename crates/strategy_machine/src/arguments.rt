@@ -74,13 +74,17 @@ pub(crate) fn open_arguments<'t>(
     Ok(())
 }
 
-/// The arguments as owned terms.
-pub(crate) fn owned_terms(alloc: Global, arguments: &[Value<'_>]) -> Result<Vec<Term>, NoMemory>
-    ensures { IfOk result (λ all. all.items ≡ arguments.now) }
+/// Makes the terms those of the arguments.
+pub(crate) fn own_terms(
+    alloc: Global,
+    arguments: &[Value<'_>],
+    terms: &mut Vec<Term>,
+) -> Result<(), NoMemory>
+    ensures { OnOk result (terms.new.items ≡ arguments.now) }
 {
-    let mut all = Vec::with_capacity(alloc, arguments.len())?;
+    terms.clear();
     for argument in arguments {
-        all.push(argument.to_term(alloc)?)?;
+        terms.push(argument.to_term(alloc)?)?;
     }
-    Ok(all)
+    Ok(())
 }

@@ -10,7 +10,7 @@ ghost use Rattle.strategy_machine.specs.Turns.{world_of};
 ghost use Rattle.strategy_machine.specs.inside.Taking.{Takes, TakeFalls};
 ghost use Rattle.strategy_machine.specs.inside.Endings.{Enters};
 
-use crate::arguments::{BuiltAll, build_all, open_arguments, owned_terms};
+use crate::arguments::{BuiltAll, build_all, open_arguments, own_terms};
 use crate::endings::{end_cells, end_scopes};
 use crate::forms::replace;
 use crate::frames::Turned;
@@ -181,8 +181,8 @@ pub(crate) fn take_prim<'t, M: Meaning>(
         BuiltAll::Nothing => Ok(m.fails()),
         BuiltAll::Big => Ok(Turned::Big),
         BuiltAll::All => {
-            let terms = owned_terms(alloc, &m.arguments)?;
-            let Some(term) = answer_of(alloc, host, primitive, &terms)? else {
+            own_terms(alloc, &m.arguments, &mut m.terms)?;
+            let Some(term) = answer_of(alloc, host, primitive, &m.terms)? else {
                 return Ok(m.fails());
             };
             let mut value = Value::from_term(alloc, &term)?;

@@ -15,7 +15,7 @@ ghost use Rattle.strategy_machine.specs.inside.Turning.{GoesIn, EndFalls, Descen
 ghost use Rattle.strategy_machine.specs.inside.Taking.{Takes, TakeFalls};
 ghost use Rattle.strategy_syntax.specs.Resolved.{all};
 
-use crate::frames::{Acts, Turned, Walk, drop_part, drop_parts};
+use crate::frames::{Acts, Turned, Walk, drop_part, drop_parts, put_parts};
 use crate::lists::end_each;
 use crate::machine::Machine;
 use crate::stack::Slot;
@@ -114,6 +114,7 @@ pub(crate) fn finish<'t>(
     alloc: Global,
     node: &mut Part<'t>,
     parts: &mut Vec<Part<'t>>,
+    spares: &mut Vec<Vec<Part<'t>>>,
 ) -> Result<(), NoMemory>
     requires { PartsStand node.old (all_parts node.old parts.old.items) }
     ensures { OnOk result (node.new ≡ node_with node.old parts.old.items) }
@@ -121,7 +122,7 @@ pub(crate) fn finish<'t>(
     if parts.is_empty() {
         return Ok(());
     }
-    finish_changed(alloc, node, parts)
+    finish_changed(alloc, node, parts, spares)
 }
 
 // `finish` if a child has changed.
@@ -130,6 +131,7 @@ fn finish_changed<'t>(
     alloc: Global,
     node: &mut Part<'t>,
     parts: &mut Vec<Part<'t>>,
+    spares: &mut Vec<Vec<Part<'t>>>,
 ) -> Result<(), NoMemory>
     requires stand { PartsStand node.old (all_parts node.old parts.old.items) }
     requires some { (length parts.old.items == 0) ≡ false }
@@ -137,21 +139,51 @@ fn finish_changed<'t>(
 {
     let mut all = mem::replace(parts, Vec::new(alloc));
     fill(&mut all, node, node.child_count())?;
-    let whole = node.with_parts(alloc, all)?;
+    let whole = node.over_parts(alloc, &mut all)?;
     *node = whole;
+    keep_spare(spares, all);
     Ok(())
 }
 
-/// If child `i` has changed, puts its part at its index; missing parts of unchanged children before
-/// it are filled in.
+// Keeps the memory of a vector without elements for the parts of another node.
+#[inline(always)]
+fn keep_spare<'t>(spares: &mut Vec<Vec<Part<'t>>>, parts: Vec<Part<'t>>) {
+    if parts.is_empty() && parts.capacity() != 0 && spares.reserve(1).is_ok() {
+        spares.push_reserved(parts);
+        return;
+    }
+    drop_parts(parts);
+}
+
+// Gives a vector without elements the memory of a spare one, if there is one.
+#[inline(always)]
+fn use_spare<'t>(parts: &mut Vec<Part<'t>>, spares: &mut Vec<Vec<Part<'t>>>)
+    ensures { parts.new.items ≡ parts.old.items }
+{
+    if !parts.is_empty() || spares.is_empty() {
+        return;
+    }
+    let spare = spares.take_last();
+    if spare.is_empty() {
+        put_parts(parts, spare);
+    } else {
+        drop_parts(spare);
+    }
+}
+
+/// If child `i` of the `count` children has changed, puts its part at its index; missing parts of
+/// unchanged children before it are filled in.
 #[inline(always)]
 pub(crate) fn settle<'t>(
     parts: &mut Vec<Part<'t>>,
+    spares: &mut Vec<Vec<Part<'t>>>,
     node: &Part<'t>,
     i: usize,
+    count: usize,
     part: Part<'t>,
     changed: bool,
 ) -> Result<(), NoMemory>
+    requires { count ≡ length (children (standing_tree node.now)) }
     ensures { OnOk result (all_parts node.now parts.new.items
         ≡ cond changed (slice_set (parts_now node.now (all_parts node.now parts.old.items)) i part.entry) (all_parts node.now parts.old.items)) }
 {
@@ -163,17 +195,18 @@ pub(crate) fn settle<'t>(
         parts[i] = part;
         return Ok(());
     }
+    use_spare(parts, spares);
     match fill(parts, node, i) {
         Ok(()) => {
             if parts.len() < i {
                 drop_part(part);
                 return Ok(());
             }
-            if i >= node.child_count() {
+            if i >= count {
                 drop_part(part);
                 return Ok(());
             }
-            add(parts, part, node.child_count() - i)?;
+            add(parts, part, count - i)?;
             Ok(())
         }
         Err(error) => {
@@ -190,6 +223,10 @@ fn add<'t>(parts: &mut Vec<Part<'t>>, part: Part<'t>, room: usize) -> Result<(),
     requires { 1 ≤ room }
     ensures { OnOk result (parts.new.items ≡ parts.old.items ++ part.entry ∷ []) }
 {
+    if parts.len() < parts.capacity() {
+        parts.push_reserved(part);
+        return Ok(());
+    }
     match parts.reserve_exact(room) {
         Ok(()) => {
             parts.push_reserved(part);
@@ -368,7 +405,7 @@ pub(crate) fn go_over<'t>(
         if !any {
             return Ok(m.fails());
         }
-        finish(alloc, &mut m.part, &mut m.parts)?;
+        finish(alloc, &mut m.part, &mut m.parts, &mut m.spares)?;
         return Ok(m.gives());
     };
     let mark = m.cells.mark();

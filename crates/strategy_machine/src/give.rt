@@ -29,7 +29,7 @@ pub(crate) fn give_done<'t>(alloc: Global, m: &mut Machine<'t>) -> Result<Turned
     ensures ok { (W : World) → IfOk result (λ next. Turn W m.old (Done m.old.part) m.new next) }
     ensures less { IfOk result (λ next. Falls m.old (Done m.old.part) m.new next) }
 {
-    if let Some((strategy, scope)) = m.frames.walk_on(&mut m.part, m.trail.count)? {
+    if let Some((strategy, scope)) = m.frames.walk_on(&mut m.part, &mut m.spares, m.trail.count)? {
         return Ok(m.begins(strategy, scope));
     }
     give_last(alloc, m)
@@ -52,6 +52,7 @@ fn give_last<'t>(alloc: Global, m: &mut Machine<'t>) -> Result<Turned, NoMemory>
 pub(crate) fn to_next<'t>(
     walk: &mut Walk<'t>,
     part: &mut Part<'t>,
+    spares: &mut Vec<Vec<Part<'t>>>,
     edits: usize,
 ) -> Result<bool, NoMemory>
     ensures { IfOk result (λ yes. cond yes (StepsOn walk.old part.old edits walk.new part.new)
@@ -60,7 +61,8 @@ pub(crate) fn to_next<'t>(
     let Some(index) = walk.index.checked_add(1) else {
         return Err(NoMemory);
     };
-    if index >= walk.node.child_count() {
+    let count = walk.node.child_count();
+    if index >= count {
         return Ok(false);
     }
     let Some(child) = child_now(&walk.node, &walk.parts, index)? else {
@@ -69,8 +71,10 @@ pub(crate) fn to_next<'t>(
     let done = mem::replace(part, child);
     settle(
         &mut walk.parts,
+        spares,
         &walk.node,
         walk.index,
+        count,
         done,
         edits != walk.edits,
     )?;
@@ -161,7 +165,16 @@ fn come_up<'t>(m: &mut Machine<'t>, walk: Walk<'t>) -> Result<(), NoMemory>
     }
     let child = mem::replace(&mut m.part, node);
     m.parts = parts;
-    settle(&mut m.parts, &m.part, index, child, changed)?;
+    let count = m.part.child_count();
+    settle(
+        &mut m.parts,
+        &mut m.spares,
+        &m.part,
+        index,
+        count,
+        child,
+        changed,
+    )?;
     Ok(())
 }
 

@@ -72,7 +72,7 @@ pub(crate) fn end_each<'t>(alloc: Global, m: &mut Machine<'t>) -> Result<Turned,
             return begin_tail(alloc, m, tail, scope, count);
         }
     }
-    finish(alloc, &mut m.part, &mut m.parts)?;
+    finish(alloc, &mut m.part, &mut m.parts, &mut m.spares)?;
     Ok(m.gives())
 }
 

@@ -39,12 +39,16 @@ pub struct Machine<'t> {
     /// Parts in the places of the first children of the focus, up to the last changed one. They
     /// count if its children are visited next.
     pub parts: Vec<Part<'t>>,
+    /// Vectors without elements, whose memory serves further nodes.
+    pub spares: Vec<Vec<Part<'t>>>,
     pub frames: Frames<'t>,
     pub cells: Cells<'t>,
     pub scopes: Scopes<'t>,
     pub trail: Trail<'t>,
     /// The term arguments of the current call.
     pub arguments: Vec<Value<'t>>,
+    /// The terms that a primitive was called with last.
+    pub terms: Vec<Term>,
     pub level: u64,
     pub steps: u64,
 }
@@ -69,11 +73,13 @@ impl<'t> Machine<'t> {
             next: Next::Done,
             part: Part::original(term),
             parts: Vec::new(alloc),
+            spares: Vec::new(alloc),
             frames: Frames::new(alloc),
             cells: Cells::new(alloc),
             scopes: Scopes::new(alloc),
             trail,
             arguments: Vec::new(alloc),
+            terms: Vec::new(alloc),
             level,
             steps,
         }

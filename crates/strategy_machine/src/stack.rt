@@ -319,6 +319,7 @@ impl<'t> Frames<'t> {
     pub(crate) fn walk_on(
         &mut self,
         part: &mut Part<'t>,
+        spares: &mut Vec<Vec<Part<'t>>>,
         edits: usize,
     ) -> Result<Option<(&'t ResolvedStrategy, usize)>, NoMemory>
         ensures { IfOk result (λ next. MatchOption next ((self.new ≡ self.old) × (part.new ≡ part.old)) (λ x. LastGoesOn self.old part.old edits x.0 x.1 self.new part.new)) }
@@ -330,7 +331,7 @@ impl<'t> Frames<'t> {
             return Ok(None);
         };
         let walk = self.walks.len() - 1;
-        if !to_next(&mut self.walks[walk], part, edits)? {
+        if !to_next(&mut self.walks[walk], part, spares, edits)? {
             return Ok(None);
         }
         put_others(&mut self.slots, others, scope);

@@ -23,11 +23,13 @@ with_next m n = record {
   next = n;
   part = m.part;
   parts = m.parts;
+  spares = m.spares;
   frames = m.frames;
   cells = m.cells;
   scopes = m.scopes;
   trail = m.trail;
   arguments = m.arguments;
+  terms = m.terms;
   level = m.level;
   steps = m.steps;
 }

@@ -4,8 +4,8 @@ use Rattle.strategy_machine.specs.inside.Filling.{Fills}
 use Rattle.strategy_machine.proofs.PartsLemmas.{finished_parts, finished_can_hold, finished_is}
 use Rattle.strategy_machine.proofs.children.finish_changed.Goals as goal
 
-pub with_parts-requires : goal.with_parts-requires
-with_parts-requires c = finished_can_hold c.args.node.now c.args.parts.now.items c.fill.new.parts.items c.requires.stand
+pub over_parts-requires : goal.over_parts-requires
+over_parts-requires c = finished_can_hold c.args.node.now c.args.parts.now.items c.fill.new.parts.items c.requires.stand
     (finished_parts c.args.node.now c.args.parts.now.items c.fill.new.parts.items c.child_count.result c.child_count.ensures
     (subst (λ (ps : Vec Standing Global). Fills (standing_children c.args.node.now) ps.items c.child_count.result c.fill.new.parts.items) c.replace-all.ensures.value c.in_ok-fill.ensures))
 

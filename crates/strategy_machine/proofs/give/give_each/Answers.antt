@@ -1,4 +1,4 @@
-use Rattle.std.proofs.Common.{◌≡◌, refl, sym, ap, subst, reverse, Bool, cond, not, ◌==◌, slice_set}
+use Rattle.std.proofs.Common.{refl, sym, ap, subst, reverse, Bool, cond, not, slice_set}
 use Rattle.std.proofs.lemmas.Bool.{eq-eqb}
 use Rattle.strategy_machine.proofs.GiveLemmas.{st, give_each}
 use Rattle.strategy_machine.proofs.FormLemmas.{each_stands}

@@ -1,4 +1,4 @@
-use Rattle.std.proofs.Common.{◌≡◌, ◌∙◌, refl, sym, ap, subst, Bool, cond, not, ◌==◌, slice_set}
+use Rattle.std.proofs.Common.{◌∙◌, refl, sym, ap, subst, Bool, cond, not, slice_set}
 use Rattle.std.proofs.lemmas.Bool.{eq-eqb, ne_eqb}
 use Rattle.term_changes.specs.Standing.{Standing, standing_children, with_standing, CanHold}
 use Rattle.strategy_machine.proofs.give.rise.Goals as goal

@@ -1,4 +1,4 @@
-use Rattle.std.proofs.Common.{List, ◌≡◌, ◌+◌, ◌-◌, ◌++◌, ◌∷◌, [], length, true, refl, sym, ap, ◌∙◌, arith}
+use Rattle.std.proofs.Common.{List, ◌≡◌, ◌+◌, ◌-◌, ◌++◌, length, true, sym, ap, ◌∙◌, arith}
 use Rattle.strategy_machine.specs.declared.frames.Frame.{Frame}
 use Rattle.strategy_machine.specs.inside.Slots.{frames_of, has_walk, with_walk}
 use Rattle.strategy_machine.proofs.ResultLemmas.{ok_map}
