@@ -1,2 +1,3 @@
+pub mod AnnotationLemmas
 pub mod BytesLemmas
 pub mod ExtendedRows

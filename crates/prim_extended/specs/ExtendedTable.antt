@@ -3,7 +3,7 @@ use Rattle.std.specs.Prelude.{ℕ, List, [], ◌∷◌, ◌++◌, codes}
 use Rattle.prim_core.specs.Signature.{Signature}
 use Rattle.prim_core.specs.StandardTable.{standard_signatures}
 use Rattle.prim_extended.specs.declared.operations.ExtendedOperation.{ExtendedOperation}
-use Rattle.prim_extended.specs.declared.operations.ExtendedOperation.TheVariants.{Addi, Subti, Muli, Divi, Gti, Strcat, Strlen, IntToString, StringToInt, ExplodeString, ImplodeString, Gts, Modi}
+use Rattle.prim_extended.specs.declared.operations.ExtendedOperation.TheVariants.{Addi, Subti, Muli, Divi, Gti, Strcat, Strlen, IntToString, StringToInt, ExplodeString, ImplodeString, Gts, Modi, StripAnnos, EqIgnoreAnnos}
 
 abbrev signature : List ℕ → ℕ → Signature
 signature name arity = record { name = name; arity = arity }
@@ -12,7 +12,8 @@ signature name arity = record { name = name; arity = arity }
 abbrev pub extended_signatures : List Signature
 extended_signatures = standard_signatures
     ++ (signature (codes "explode-string") 1 ∷ (signature (codes "implode-string") 1
-    ∷ (signature (codes "gts") 2 ∷ (signature (codes "modi") 2 ∷ []))))
+    ∷ (signature (codes "gts") 2 ∷ (signature (codes "modi") 2
+    ∷ (signature (codes "strip-annos") 1 ∷ (signature (codes "eq-ignore-annos") 2 ∷ []))))))
 
 -- ---- each as a value
 
@@ -30,6 +31,8 @@ name_of ExplodeString = codes "explode-string"
 name_of ImplodeString = codes "implode-string"
 name_of Gts = codes "gts"
 name_of Modi = codes "modi"
+name_of StripAnnos = codes "strip-annos"
+name_of EqIgnoreAnnos = codes "eq-ignore-annos"
 
 abbrev pub arity_of : ExtendedOperation → ℕ
 arity_of Addi = 2
@@ -45,3 +48,5 @@ arity_of ExplodeString = 1
 arity_of ImplodeString = 1
 arity_of Gts = 2
 arity_of Modi = 2
+arity_of StripAnnos = 1
+arity_of EqIgnoreAnnos = 2

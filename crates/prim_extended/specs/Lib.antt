@@ -1,4 +1,5 @@
 pub mod Bytes
 pub mod Remainder
+pub mod Annotations
 pub mod Extended
 pub mod ExtendedTable

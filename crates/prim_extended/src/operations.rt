@@ -4,6 +4,7 @@ ghost use Rattle.std.specs.Prelude.{◌≡◌, ◌++◌, ◌∷◌, [], length, 
 ghost use Rattle.prim_extended.specs.Extended.{extended};
 ghost use Rattle.prim_extended.specs.ExtendedTable.{arity_of, extended_signatures, name_of};
 
+use crate::annotations::{eq_ignore_annos, strip_annos};
 use crate::integers::modi;
 use crate::strings::{explode_string, gts, implode_string};
 use prim_core::{
@@ -29,11 +30,13 @@ pub enum ExtendedOperation {
     ImplodeString,
     Gts,
     Modi,
+    StripAnnos,
+    EqIgnoreAnnos,
 }
 
 use ExtendedOperation::{
-    Addi, Divi, ExplodeString, Gti, Gts, ImplodeString, IntToString, Modi, Muli, Strcat,
-    StringToInt, Strlen, Subti,
+    Addi, Divi, EqIgnoreAnnos, ExplodeString, Gti, Gts, ImplodeString, IntToString, Modi, Muli,
+    Strcat, StringToInt, StripAnnos, Strlen, Subti,
 };
 
 impl Operation for ExtendedOperation {
@@ -56,6 +59,8 @@ impl Operation for ExtendedOperation {
             ImplodeString => implode_string(alloc, arguments),
             Gts => gts(alloc, arguments),
             Modi => modi(alloc, arguments),
+            StripAnnos => strip_annos(alloc, arguments),
+            EqIgnoreAnnos => eq_ignore_annos(alloc, arguments),
         }
     }
 }
@@ -89,6 +94,8 @@ pub fn extended_primitives(alloc: Global) -> Result<Vec<Primitive<Extended>>, No
     add(alloc, &mut primitives, b"implode-string", 1, ImplodeString)?;
     add(alloc, &mut primitives, b"gts", 2, Gts)?;
     add(alloc, &mut primitives, b"modi", 2, Modi)?;
+    add(alloc, &mut primitives, b"strip-annos", 1, StripAnnos)?;
+    add(alloc, &mut primitives, b"eq-ignore-annos", 2, EqIgnoreAnnos)?;
     Ok(primitives)
 }
 
