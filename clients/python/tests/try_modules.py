@@ -76,8 +76,8 @@ class Assignments(ast.NodeTransformer):
 
 
 REFACTORINGS = [
-    (Conditions, ("python", "lists", "python-conditions"), "bottomup(try(NegatedTest))"),
-    (Branches, ("python", "lists", "python-conditions"), "bottomup(try(NegatedIf))"),
+    (Conditions, ("python", "lists", "terms", "python-conditions"), "bottomup(try(NegatedTest))"),
+    (Branches, ("python", "lists", "terms", "python-conditions"), "bottomup(try(NegatedIf))"),
     (
         Assignments,
         ("python", "lists", "terms", "names", "python-names", "python-statements"),
