@@ -13,8 +13,9 @@ use prim_core::Meaning;
 use script_core::Answer;
 use session_core::{Refusal, Session};
 use std::alloc::{AllocError, Global};
-use std::fs::{self, File, Permissions};
+use std::fs::{self, File, Metadata};
 use std::io::{self, ErrorKind, Write};
+use std::os::unix::fs::{MetadataExt, fchown};
 use term_core::Label;
 
 // How many names for the new file are tried.
@@ -60,18 +61,28 @@ pub fn write_tree<M: Meaning>(
     }
 }
 
-// Writes the text beside its place and moves it there. A file that is there keeps its permissions,
-// and a link to it stays one. What isn't a file stays as it is: a device would be replaced by a
-// file.
+// Writes the text beside its place and moves it there. A file that is there keeps its owner, its
+// group and its permissions, and a link to it stays one. Left as it is, and refused, is what isn't
+// a file, since a file would take the place of a device; a link to nothing, since a file would take
+// its place; and a file with further hard links, since those would keep the old text.
 fn replace(rt: &HostRuntime, file: &str, text: &[u8]) -> io::Result<()> {
-    let Ok(there) = fs::metadata(rt, file) else {
-        return write_beside(rt, file, text, None);
+    let there = match fs::metadata(rt, file) {
+        Ok(there) => there,
+        Err(_) if fs::symlink_metadata(rt, file).is_ok() => return refuse("a link to no file"),
+        Err(_) => return write_beside(rt, file, text, None),
     };
     if !there.is_file() {
-        return Err(io::Error::new(ErrorKind::InvalidInput, "no file"));
+        return refuse("no file");
+    }
+    if there.nlink() > 1 {
+        return refuse("a file with further hard links");
     }
     let place = fs::canonicalize(rt, file)?;
-    write_beside(rt, place.as_str(), text, Some(there.permissions()))
+    write_beside(rt, place.as_str(), text, Some(&there))
+}
+
+fn refuse(reason: &'static str) -> io::Result<()> {
+    Err(io::Error::new(ErrorKind::InvalidInput, reason))
 }
 
 // A name beside the file that is in use is left alone, and the next is tried.
@@ -79,13 +90,13 @@ fn write_beside(
     rt: &HostRuntime,
     file: &str,
     text: &[u8],
-    permissions: Option<Permissions>,
+    there: Option<&Metadata>,
 ) -> io::Result<()> {
     for number in 0..MAX_TRIES {
         let beside = beside(rt.alloc(), file, number)?;
         match File::create_new(rt, &beside) {
             Ok(new) => {
-                let moved = fill_and_move(rt, new, &beside, file, text, permissions);
+                let moved = fill_and_move(rt, new, &beside, file, text, there);
                 if moved.is_err() {
                     let _ = fs::remove_file(rt, &beside);
                 }
@@ -98,19 +109,38 @@ fn write_beside(
     Err(ErrorKind::AlreadyExists.into())
 }
 
+// What is written reaches the disk before it is moved, so that no crash leaves half a file.
 fn fill_and_move(
     rt: &HostRuntime,
     mut new: File,
     beside: &str,
     file: &str,
     text: &[u8],
-    permissions: Option<Permissions>,
+    there: Option<&Metadata>,
 ) -> io::Result<()> {
-    if let Some(permissions) = permissions {
-        new.set_permissions(permissions)?;
+    if let Some(there) = there {
+        keep_owner(&new, there)?;
+        new.set_permissions(there.permissions())?;
     }
     new.write_all(text)?;
+    if let Some(there) = there {
+        // writing takes away the right to run as the owner
+        new.set_permissions(there.permissions())?;
+    }
+    new.sync_all()?;
     fs::rename(rt, beside, file)
+}
+
+// Gives the new file the owner and the group of the one that is there.
+fn keep_owner(new: &File, there: &Metadata) -> io::Result<()> {
+    let made = new.metadata()?;
+    if made.uid() == there.uid() && made.gid() == there.gid() {
+        return Ok(());
+    }
+    match fchown(new, Some(there.uid()), Some(there.gid())) {
+        Ok(()) => Ok(()),
+        Err(_) => refuse("a file whose owner or group can't be kept"),
+    }
 }
 
 // A name in the same folder.
