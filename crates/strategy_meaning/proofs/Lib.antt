@@ -1,5 +1,6 @@
 pub mod SameLemmas
 pub mod Related
+pub mod Elsewhere
 pub mod StepLemmas
 pub mod Composes
 pub mod HeightLemmas

@@ -1,13 +1,12 @@
 -- More steps give the same answer, and enough steps are enough.
-use Rattle.std.proofs.Common.{◌≡◌, ◌≢◌, ℕ, ◌+◌, ◌≤◌, zero, suc, true, false, cond, refl, sym, ap, ◌∙◌, arith}
+use Rattle.std.proofs.Common.{◌≡◌, ◌≢◌, ℕ, ◌+◌, ◌≤◌, zero, suc, true, refl, sym, ap, ◌∙◌, arith}
 use Rattle.std.proofs.lemmas.Bool.Decides.{nat_tests}
 use Rattle.term_core.specs.Tree.{Tree}
 use Rattle.term_core.specs.Size.{fits}
-use Rattle.term_paths.specs.Edits.{Edits}
 use Rattle.strategy_syntax.specs.Resolved.{ResolvedStrategy}
 use Rattle.strategy_meaning.specs.Scopes.{Scope}
 use Rattle.strategy_meaning.specs.Matching.{Bindings}
-use Rattle.strategy_meaning.specs.Answer.{Answer, done, failed, stopped, spent, big, either}
+use Rattle.strategy_meaning.specs.Answer.{Answer, done, failed, stopped, spent, big}
 use Rattle.strategy_meaning.specs.Meaning.{World, run, run_bounded, form}
 use Rattle.strategy_meaning.specs.Laws.{later, in_room, MoreStepsGiveTheSame, MoreRoomGivesTheSame, OneStepIsOneForm}
 use Rattle.strategy_meaning.proofs.Related.{Related, Keeps, IsRoomier, Alike, form-related}

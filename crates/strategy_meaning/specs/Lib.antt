@@ -6,3 +6,4 @@ pub mod Meaning
 pub mod Applied
 pub mod Outermost
 pub mod Laws
+pub mod Closed

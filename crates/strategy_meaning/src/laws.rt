@@ -1,5 +1,6 @@
 //! Laws of what strategies do. Each is the contract of a function that does nothing.
 
+ghost use Rattle.strategy_meaning.specs.Closed.{ClosedRunsAreTheSame};
 ghost use Rattle.strategy_meaning.specs.Laws.{SameIsEqual, OneStepIsOneForm, MoreStepsGiveTheSame, MoreStepsApplyTheSame, MoreRoomGivesTheSame, MoreRoomAppliesTheSame, HeightsAreKept, AppliedKeepsHeights, EditsReplace, AppliedEditsReplace, NoEditsNoChange, IdFirst, IdLast, FailFirst, ChoiceGoesOn, WhereLeaves, TraversalsKeepAnnotations};
 
 /// The test for equal terms is equality.
@@ -22,6 +23,12 @@ pub fn more_steps_give_the_same()
 pub fn more_room_gives_the_same()
     ensures run { MoreRoomGivesTheSame }
     ensures applied { MoreRoomAppliesTheSame }
+{}
+
+/// A strategy that needs no cell of its caller has the same answer wherever it runs, unless a term
+/// that it builds is too high there.
+pub fn closed_runs_are_the_same()
+    ensures { ClosedRunsAreTheSame }
 {}
 
 /// If a term isn't too high at its level, neither is the result.
