@@ -161,7 +161,8 @@ impl<'a> Text<'a> {
 /// The first of the modules that declares a constructor of this name with so many arguments.
 pub fn declaring<'m, 't>(modules: &'m [Text<'t>], name: &Name, arity: u64) -> Option<&'m Text<'t>> {
     for module in modules {
-        for constructor in module.module.constructors() {
+        for placed in module.module.constructors() {
+            let constructor = placed.item();
             if constructor.name().equals(name) && constructor.arity() as u64 == arity {
                 return Some(module);
             }

@@ -103,7 +103,8 @@ fn near_constructor<'m>(
 ) -> Result<Option<&'m Constructor>, NoMemory> {
     let mut near = None;
     for module in modules {
-        for constructor in module.module.constructors() {
+        for placed in module.module.constructors() {
+            let constructor = placed.item();
             let is_same = constructor.name().equals(name);
             let has_terms = constructor.arity() as u64 == terms;
             let is_better = has_terms && near.is_none();

@@ -216,7 +216,8 @@ impl Explainer<'_, '_, '_> {
         fault: Fault<'_>,
     ) -> Result<(), NoMemory> {
         let wanted = fault.name.bytes();
-        for it in module.constructors() {
+        for placed in module.constructors() {
+            let it = placed.item();
             let arity = (it.arity() as u64, 0);
             near.offer(self.alloc, wanted, it.name().bytes(), arity)?;
         }

@@ -10,7 +10,7 @@ use crate::key::DefinitionKey;
 use crate::named::NamedModule;
 use crate::table::Table;
 use std::alloc::Global;
-use strategy_syntax::Constructor;
+use strategy_syntax::{Constructor, Placed};
 use term_core::NoMemory;
 
 /// Whether the new modules define what a module defines that isn't among the old ones.
@@ -59,12 +59,13 @@ pub fn has_clash(after: &Table, new: &[NamedModule]) -> Result<bool, NoMemory>
     Ok(false)
 }
 
-fn any_clash(after: &Table, constructors: &[Constructor]) -> Result<bool, NoMemory>
+fn any_clash(after: &Table, constructors: &[Placed<Constructor>]) -> Result<bool, NoMemory>
     ensures { IfOk result (λ found. found ≡ list_any (is_clash after.now) constructors.now) }
 {
     for constructor in constructors {
+        let declared = constructor.item();
         if after
-            .definition(constructor.name(), constructor.arity(), 0)?
+            .definition(declared.name(), declared.arity(), 0)?
             .is_some()
         {
             return Ok(true);

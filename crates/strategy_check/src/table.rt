@@ -11,7 +11,7 @@ use crate::named::NamedModule;
 use indexmap::IndexSet;
 use std::alloc::Global;
 use std::marker::Model;
-use strategy_syntax::{Constructor, Definition, Module};
+use strategy_syntax::{Constructor, Definition, Module, Placed};
 use term_core::{Name, NoMemory};
 
 /// The keys of the definitions, whose indices are the numbers of these, and the constructors.
@@ -111,13 +111,14 @@ pub fn add_definitions(
 
 fn add_constructors(
     declared: &mut IndexSet<Constructor>,
-    constructors: &[Constructor],
+    constructors: &[Placed<Constructor>],
 ) -> Result<(), NoMemory>
     ensures { OnOk result (declared.new.keys
         ≡ with_new same_constructor declared.old.keys constructors.now) }
 {
     for constructor in constructors {
-        declared.insert(constructor_of(constructor.name(), constructor.arity())?)?;
+        let declaration = constructor.item();
+        declared.insert(constructor_of(declaration.name(), declaration.arity())?)?;
     }
     Ok(())
 }

@@ -1,9 +1,9 @@
 //! Modules: the constructors that they declare, and their definitions.
 
-ghost use Rattle.std.specs.Prelude.{◌≡◌, ◌↔◌, IsTrue};
+ghost use Rattle.std.specs.Prelude.{◌≡◌, ◌↔◌, ◌<◌, length, IfSome, IsTrue};
 
-use crate::Strategy;
 use crate::names::same_names;
+use crate::{Place, Placed, Strategy};
 use std::marker::Model;
 use term_core::Name;
 
@@ -34,6 +34,8 @@ pub struct Definition {
     strategy_parameters: Vec<Name>,
     term_parameters: Vec<Name>,
     body: Strategy,
+    // Where it stands in its text. Contracts don't see it.
+    place: Place,
 }
 
 impl Model for Definition {
@@ -55,7 +57,7 @@ impl Model for Definition {
 /// The declarations and definitions of a module, in the order of its text.
 #[derive(Drop)]
 pub struct Module {
-    constructors: Vec<Constructor>,
+    constructors: Vec<Placed<Constructor>>,
     definitions: Vec<Definition>,
 }
 
@@ -103,7 +105,7 @@ impl Constructor {
 }
 
 impl Definition {
-    /// The definition with this name, these parameters and this body.
+    /// The definition with this name, these parameters and this body, which stands in no text.
     pub fn new(
         name: Name,
         strategy_parameters: Vec<Name>,
@@ -122,7 +124,20 @@ impl Definition {
             strategy_parameters,
             term_parameters,
             body,
+            place: Place::nowhere(),
         }
+    }
+
+    /// The same definition, at this place of its text.
+    pub fn at(self, place: Place) -> Definition
+        ensures { result ≡ self }
+    {
+        Definition { place, ..self }
+    }
+
+    /// Where it stands in its text, from its name on.
+    pub fn place(&self) -> Place {
+        self.place
     }
 
     pub fn name(&self) -> &Name
@@ -145,6 +160,27 @@ impl Definition {
         self.term_parameters.as_slice()
     }
 
+    /// Where the strategy parameter of this index stands, counted from 0.
+    pub fn strategy_parameter_place(&self, index: usize) -> Place {
+        if index >= self.strategy_parameters.len() {
+            return Place::nowhere();
+        }
+        // the name and `(`, and each parameter with a comma after it
+        self.place.token(index.saturating_mul(2).saturating_add(2))
+    }
+
+    /// Where the term parameter of this index stands, counted from 0.
+    pub fn term_parameter_place(&self, index: usize) -> Place {
+        if index >= self.term_parameters.len() {
+            return Place::nowhere();
+        }
+        // before the first one, the strategy parameters with commas between them, and `|`
+        let strategies = self.strategy_parameters.len().saturating_mul(2);
+        let first = strategies.max(1).saturating_add(2);
+        self.place
+            .token(index.saturating_mul(2).saturating_add(first))
+    }
+
     pub fn body(&self) -> &Strategy
         ensures { result.now ≡ self.now.body }
     {
@@ -164,7 +200,7 @@ impl Definition {
 
 impl Module {
     /// The module with these declarations and definitions, in this order.
-    pub fn new(constructors: Vec<Constructor>, definitions: Vec<Definition>) -> Module
+    pub fn new(constructors: Vec<Placed<Constructor>>, definitions: Vec<Definition>) -> Module
         ensures { result ≡ record {
           constructors = constructors.items;
           definitions = definitions.items;
@@ -176,7 +212,7 @@ impl Module {
         }
     }
 
-    pub fn constructors(&self) -> &[Constructor]
+    pub fn constructors(&self) -> &[Placed<Constructor>]
         ensures { result.now ≡ self.now.constructors }
     {
         self.constructors.as_slice()
@@ -188,6 +224,18 @@ impl Module {
         self.definitions.as_slice()
     }
 
+    /// The index of the definition that this place is in, if there is one.
+    pub fn definition_at(&self, place: Place) -> Option<usize>
+        ensures { IfSome result (λ index. index < length self.now.definitions) }
+    {
+        for (index, definition) in self.definitions.iter().enumerate() {
+            if definition.place().contains(place) {
+                return Some(index);
+            }
+        }
+        None
+    }
+
     /// Whether the two modules are equal, in the same order.
     pub fn equals(&self, other: &Module) -> bool
         ensures { IsTrue result ↔ (self.now ≡ other.now) }
@@ -197,14 +245,14 @@ impl Module {
     }
 }
 
-fn same_constructors(constructors: &[Constructor], others: &[Constructor]) -> bool
+fn same_constructors(constructors: &[Placed<Constructor>], others: &[Placed<Constructor>]) -> bool
     ensures { IsTrue result ↔ (constructors.now ≡ others.now) }
 {
     if constructors.len() != others.len() {
         return false;
     }
     for (constructor, other) in constructors.iter().zip(others) {
-        if !constructor.equals(other) {
+        if !constructor.item().equals(other.item()) {
             return false;
         }
     }

@@ -4,7 +4,7 @@
 ghost use Rattle.std.specs.Prelude.{◌≡◌, ◌↔◌, IsTrue};
 ghost use Rattle.strategy_syntax.specs.PatternView.{pattern_of};
 
-use crate::Head;
+use crate::{Head, Place};
 use std::marker::Model;
 use term_core::Name;
 
@@ -13,6 +13,8 @@ use term_core::Name;
 #[cycle(pattern)]
 pub struct Pattern {
     form: PatternForm,
+    // Where it stands in its text. Contracts don't see it.
+    place: Place,
 }
 
 /// The forms of a pattern.
@@ -56,11 +58,26 @@ impl Model for Pattern {
 }
 
 impl Pattern {
-    /// The pattern of this form.
+    /// The pattern of this form, which stands in no text.
     pub fn new(form: PatternForm) -> Pattern
         ensures { result ≡ pattern_of form }
     {
-        Pattern { form }
+        Pattern {
+            form,
+            place: Place::nowhere(),
+        }
+    }
+
+    /// The same pattern, at this place of its text.
+    pub fn at(self, place: Place) -> Pattern
+        ensures { result ≡ self }
+    {
+        Pattern { place, ..self }
+    }
+
+    /// Where it stands in its text.
+    pub fn place(&self) -> Place {
+        self.place
     }
 
     pub fn form(&self) -> &PatternForm

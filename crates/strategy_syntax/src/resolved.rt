@@ -5,7 +5,7 @@ ghost use Rattle.strategy_syntax.specs.Resolved.{resolveds_of};
 ghost use Rattle.strategy_syntax.specs.ResolvedView.{resolved_of};
 ghost use Rattle.strategy_syntax.specs.Renumbering.{new_number, renumbered, all_renumbered};
 
-use crate::{Head, ResolvedPattern};
+use crate::{Head, Place, ResolvedPattern};
 use std::marker::Model;
 
 /// A whole resolved strategy: the body of a definition, or a strategy to apply.
@@ -24,6 +24,9 @@ pub struct Resolved {
 #[cycle(resolved)]
 pub struct ResolvedStrategy {
     form: ResolvedForm,
+    // Where it stands, and in which text. Contracts see neither.
+    place: Place,
+    text: u32,
 }
 
 /// The forms of a resolved strategy.
@@ -90,11 +93,36 @@ impl Model for ResolvedStrategy {
 }
 
 impl ResolvedStrategy {
-    /// The resolved strategy of this form.
+    /// The resolved strategy of this form, which stands in no text.
     pub fn new(form: ResolvedForm) -> ResolvedStrategy
         ensures { result ≡ resolved_of form }
     {
-        ResolvedStrategy { form }
+        ResolvedStrategy {
+            form,
+            place: Place::nowhere(),
+            text: 0,
+        }
+    }
+
+    /// The same resolved strategy, at this place of the text of this number.
+    pub fn at(self, text: u32, place: Place) -> ResolvedStrategy
+        ensures { result ≡ self }
+    {
+        ResolvedStrategy {
+            place,
+            text,
+            ..self
+        }
+    }
+
+    /// Where it stands in its text.
+    pub fn place(&self) -> Place {
+        self.place
+    }
+
+    /// The number of its text: that of a checked module, from 1 on, or 0 for the text of a command.
+    pub fn text(&self) -> u32 {
+        self.text
     }
 
     pub fn form(&self) -> &ResolvedForm

@@ -6,7 +6,7 @@ ghost use Rattle.strategy_syntax.specs.StrategyView.{strategy_of};
 
 use crate::names::same_names;
 use crate::pattern::same_patterns;
-use crate::{Head, Pattern};
+use crate::{Head, Pattern, Place};
 use std::marker::Model;
 use term_core::Name;
 
@@ -15,6 +15,8 @@ use term_core::Name;
 #[cycle(strategy)]
 pub struct Strategy {
     form: StrategyForm,
+    // Where it stands in its text. Contracts don't see it.
+    place: Place,
 }
 
 /// The core forms of a strategy.
@@ -78,11 +80,45 @@ impl Model for Strategy {
 }
 
 impl Strategy {
-    /// The strategy of this form.
+    /// The strategy of this form, which stands in no text.
     pub fn new(form: StrategyForm) -> Strategy
         ensures { result ≡ strategy_of form }
     {
-        Strategy { form }
+        Strategy {
+            form,
+            place: Place::nowhere(),
+        }
+    }
+
+    /// The same strategy, at this place of its text.
+    pub fn at(self, place: Place) -> Strategy
+        ensures { result ≡ self }
+    {
+        Strategy { place, ..self }
+    }
+
+    /// Where it stands in its text. A form without tokens of its own stands where the part stands
+    /// that it was made from: `?l` and `!r` of a rule `l -> r` where `l` and `r` do.
+    pub fn place(&self) -> Place {
+        self.place
+    }
+
+    /// Where the name of this index stands that the strategy binds, counted from 0: `x` of
+    /// `rec x(s)`, and each name of `{x1,..,xn: s}`. The variables of a rule or a closure have no
+    /// such place.
+    pub fn binder_place(&self, index: usize) -> Place {
+        match &self.form {
+            StrategyForm::Rec(_, _) if index == 0 => self.place.token(1),
+            StrategyForm::Scope(names, part) if index < names.len() => {
+                // `{`, and each name with a comma or a colon after it
+                let before = names.len().saturating_mul(2).saturating_add(1);
+                if part.place.begun(before).to(self.place) != self.place {
+                    return Place::nowhere();
+                }
+                self.place.token(index.saturating_mul(2).saturating_add(1))
+            }
+            _ => Place::nowhere(),
+        }
     }
 
     pub fn form(&self) -> &StrategyForm
@@ -95,8 +131,7 @@ impl Strategy {
     pub fn into_form(self) -> StrategyForm
         ensures { self ≡ strategy_of result }
     {
-        let Strategy { form } = self;
-        form
+        self.form
     }
 
     /// Whether the two strategies are equal.

@@ -183,6 +183,7 @@ fn is_as_written(module: &Module) -> bool {
     let (Some(plus), Some(f)) = (module.constructors().first(), module.definitions().first()) else {
         return false;
     };
+    let plus = plus.item();
     plus.name().bytes() == b"Plus".as_slice()
         && plus.arity() == 2
         && plus.equals(plus)

@@ -9,7 +9,7 @@ use crate::modules::definitions::read_definition;
 use crate::modules::sorts::skip_sort;
 use crate::parser::SyntaxFault;
 use std::alloc::Global;
-use strategy_syntax::{Constructor, Definition, Module};
+use strategy_syntax::{Constructor, Definition, Module, Place, Placed};
 use strategy_tokens::{Keyword, Token};
 
 /// What may come next in a module, besides another section.
@@ -30,7 +30,7 @@ pub enum Context {
 /// What was read so far of a module.
 #[derive(Drop)]
 pub struct Built {
-    pub constructors: Vec<Constructor>,
+    pub constructors: Vec<Placed<Constructor>>,
     pub definitions: Vec<Definition>,
 }
 
@@ -163,7 +163,8 @@ fn add_declaration<'a>(tokens: &'a [Token], built: &mut Built) -> Result<&'a [To
     let (declared, rest) = read_declaration(tokens)?;
     match declared {
         Some(constructor) => {
-            built.constructors.push(constructor)?;
+            let place = Place::new(tokens.len(), rest.len());
+            built.constructors.push(Placed::new(constructor, place))?;
             Ok(rest)
         }
         None => Ok(rest),
@@ -193,6 +194,7 @@ fn add_definition<'a>(
     ensures shorter { IfOk result (λ rest. length rest.now < length tokens.now) }
 {
     let (definition, rest) = read_definition(alloc, tokens)?;
-    built.definitions.push(definition)?;
+    let place = Place::new(tokens.len(), rest.len());
+    built.definitions.push(definition.at(place))?;
     Ok(rest)
 }

@@ -12,7 +12,7 @@ use crate::parser::group::{closing_of, make_group};
 use crate::parser::lists::ItemList;
 use crate::parser::make::{
     make_child, make_closure_where, make_guard, make_id, make_if, make_operated, make_rec,
-    make_scope, make_seq, make_square_tail,
+    make_seq, make_square_tail, make_written_scope,
 };
 use crate::parser::stack::ParserStack;
 use crate::parser::state::{
@@ -20,7 +20,7 @@ use crate::parser::state::{
     StrategyGroup,
 };
 use std::alloc::Global;
-use strategy_syntax::Strategy;
+use strategy_syntax::{Place, Strategy};
 use strategy_tokens::{Keyword, Sign, Token, is_mark, is_word};
 
 /// After a strategy, which may continue.
@@ -89,8 +89,9 @@ fn after_seq(
         machine.after_seq strategy (forms stack.old) token.now ≡ machine.stuck }
 {
     if is_mark(token, Sign::LeftChoice) {
+        let sign = strategy.place().next();
         stack.push(ParserFrame::Operand(Infix::Guarded, strategy))?;
-        stack.push(ParserFrame::Operand(Infix::Otherwise, make_id()))?;
+        stack.push(ParserFrame::Operand(Infix::Otherwise, make_id().at(sign)))?;
         return Ok(Effect::Goes(ParserState::Strategy));
     }
     if is_mark(token, Sign::Less) {
@@ -180,7 +181,7 @@ fn in_frame(
         }
         StrategyFrame::Scope(names) => {
             expect(token, Sign::CloseCurly)?;
-            Ok(Effect::Goes(ParserState::Read(make_scope(alloc, names, strategy)?)))
+            Ok(Effect::Goes(ParserState::Read(make_written_scope(alloc, names, strategy)?)))
         }
         StrategyFrame::Application => {
             expect(token, Sign::Greater)?;
@@ -202,7 +203,8 @@ fn in_frame(
             Ok(Effect::Goes(ParserState::Read(make_closure_where(alloc, left, right, strategy)?)))
         }
         StrategyFrame::List(group, done) => {
-            after_element(alloc, group, done.with(strategy)?, stack, token)
+            let next = strategy.place().next();
+            after_element(alloc, group, done.with(strategy)?, stack, token, next)
         }
         StrategyFrame::Tail(done) => {
             expect(token, Sign::CloseSquare)?;
@@ -230,7 +232,8 @@ fn after_then(
         return Ok(Effect::Goes(ParserState::Strategy));
     }
     if is_word(token, Keyword::End) {
-        return Ok(Effect::Goes(ParserState::Read(make_if(alloc, tested, strategy, make_id())?)));
+        let otherwise = make_id().at(strategy.place());
+        return Ok(Effect::Goes(ParserState::Read(make_if(alloc, tested, strategy, otherwise)?)));
     }
     drop(strategy);
     drop(tested);
@@ -244,6 +247,7 @@ fn after_element(
     done: ItemList<Strategy>,
     stack: &mut ParserStack,
     token: &Token,
+    place: Place,
 ) -> Result<Effect, SyntaxFault>
     ensures ok { IfOk result (λ o.
         machine.after_element group done (forms stack.old) token.now
@@ -259,7 +263,7 @@ fn after_element(
         return after_bar(group, done, stack);
     }
     if is_mark(token, closing_of(&group)) {
-        return Ok(Effect::Goes(ParserState::Read(make_group(alloc, group, done))));
+        return Ok(Effect::Goes(ParserState::Read(make_group(alloc, group, done, place))));
     }
     drop(done);
     drop(group);

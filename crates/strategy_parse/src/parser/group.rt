@@ -9,7 +9,7 @@ ghost use Rattle.strategy_parse.specs.inside.Parser as machine;
 use crate::parser::lists::ItemList;
 use crate::parser::state::{ParserState, PatternGroup, StrategyGroup};
 use std::alloc::Global;
-use strategy_syntax::{Head, Pattern, PatternForm, Strategy, StrategyForm};
+use strategy_syntax::{Head, Pattern, PatternForm, Place, Strategy, StrategyForm};
 use strategy_tokens::Sign;
 use term_core::{Name, NoMemory};
 
@@ -24,19 +24,42 @@ pub fn closing_of(group: &StrategyGroup) -> Sign
     }
 }
 
-/// What a list of strategies makes.
-pub fn make_group(alloc: Global, group: StrategyGroup, done: ItemList<Strategy>) -> Strategy
+/// What a list of strategies makes, whose closing sign stands there.
+pub fn make_group(
+    alloc: Global,
+    group: StrategyGroup,
+    done: ItemList<Strategy>,
+    sign: Place,
+) -> Strategy
     ensures { result ≡ machine.grouped group done }
 {
+    let first = first_strategy_place(done.as_slice(), sign);
     match group {
-        StrategyGroup::Round => make_round(done),
-        StrategyGroup::Square => Strategy::new(StrategyForm::Congruence(
-            Head::List,
-            done.into_vec(),
-        )),
-        StrategyGroup::Arguments(name) => {
-            Strategy::new(StrategyForm::Use(name, done.into_vec(), Vec::new(alloc)))
+        StrategyGroup::Round => make_round(done).at(first.begun(1).to(sign)),
+        StrategyGroup::Square => {
+            let form = StrategyForm::Congruence(Head::List, done.into_vec());
+            Strategy::new(form).at(first.begun(1).to(sign))
         }
+        StrategyGroup::Arguments(name) => {
+            let form = StrategyForm::Use(name, done.into_vec(), Vec::new(alloc));
+            Strategy::new(form).at(first.begun(2).to(sign))
+        }
+    }
+}
+
+/// The place of the first strategy, or of the sign after the list if it is empty.
+pub fn first_strategy_place(strategies: &[Strategy], sign: Place) -> Place {
+    match strategies.first() {
+        Some(strategy) => strategy.place(),
+        None => sign,
+    }
+}
+
+/// The place of the first pattern, or of the sign after the list if it is empty.
+pub fn first_pattern_place(patterns: &[Pattern], sign: Place) -> Place {
+    match patterns.first() {
+        Some(pattern) => pattern.place(),
+        None => sign,
     }
 }
 
@@ -68,36 +91,45 @@ pub fn closing_sign_of(group: &PatternGroup) -> Sign
     }
 }
 
-/// What a list of patterns makes.
+/// What a list of patterns makes, whose closing sign stands there.
 pub fn close_patterns(
     alloc: Global,
     group: PatternGroup,
     done: ItemList<Pattern>,
+    sign: Place,
 ) -> Result<ParserState, NoMemory>
     ensures { IfOk result (λ state. state ≡ machine.close_patterns group done) }
 {
+    let first = first_pattern_place(done.as_slice(), sign);
     let patterns = done.into_vec();
     match group {
         PatternGroup::Application(name) => {
-            let head = Head::Application(name);
-            Ok(ParserState::Base(Pattern::new(PatternForm::Compound(head, patterns))))
+            let form = PatternForm::Compound(Head::Application(name), patterns);
+            Ok(ParserState::Base(Pattern::new(form).at(first.begun(2).to(sign))))
         }
         PatternGroup::List => {
-            Ok(ParserState::Base(Pattern::new(PatternForm::Compound(Head::List, patterns))))
+            let form = PatternForm::Compound(Head::List, patterns);
+            Ok(ParserState::Base(Pattern::new(form).at(first.begun(1).to(sign))))
         }
         PatternGroup::Tuple => {
-            Ok(ParserState::Base(Pattern::new(PatternForm::Compound(Head::Tuple, patterns))))
+            let form = PatternForm::Compound(Head::Tuple, patterns);
+            Ok(ParserState::Base(Pattern::new(form).at(first.begun(1).to(sign))))
         }
         PatternGroup::Annotations(pattern) => {
-            let pattern = Box::new(alloc, pattern)?;
-            Ok(ParserState::Whole(Pattern::new(PatternForm::Annotated(pattern, patterns))))
+            let place = pattern.place().to(sign);
+            let form = PatternForm::Annotated(Box::new(alloc, pattern)?, patterns);
+            Ok(ParserState::Whole(Pattern::new(form).at(place)))
         }
         PatternGroup::Terms(name, strategies) => {
-            let strategies = strategies.into_vec();
-            Ok(ParserState::Read(Strategy::new(StrategyForm::Use(name, strategies, patterns))))
+            // `|` comes after the name and `(`, and after the strategies, if there are some
+            let bar = first.begun(1);
+            let name_place = first_strategy_place(strategies.as_slice(), bar).begun(2);
+            let form = StrategyForm::Use(name, strategies.into_vec(), patterns);
+            Ok(ParserState::Read(Strategy::new(form).at(name_place.to(sign))))
         }
         PatternGroup::Prim(name) => {
-            Ok(ParserState::Read(Strategy::new(StrategyForm::Prim(name, patterns))))
+            let form = StrategyForm::Prim(name, patterns);
+            Ok(ParserState::Read(Strategy::new(form).at(first.begun(4).to(sign))))
         }
     }
 }

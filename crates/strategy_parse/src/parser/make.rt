@@ -8,6 +8,7 @@ ghost use Rattle.strategy_parse.specs.Core.{operated, rewrite, rewrite_where};
 ghost use Rattle.term_core.specs.Tree.{same_name};
 
 use crate::parser::closure::scope_of;
+use crate::parser::group::first_strategy_place;
 use crate::parser::lists::ItemList;
 use crate::parser::state::Operator;
 use std::alloc::Global;
@@ -28,29 +29,44 @@ pub fn make_fail() -> Strategy
     Strategy::new(StrategyForm::Fail)
 }
 
-/// `?p`
+/// `?p`, at the place of `p`.
 pub fn make_match(pattern: Pattern) -> Strategy
     ensures { result ≡ syntax.matches pattern }
 {
-    Strategy::new(StrategyForm::Match(pattern))
+    let place = pattern.place();
+    Strategy::new(StrategyForm::Match(pattern)).at(place)
 }
 
-/// `!p`
+/// `!p`, at the place of `p`.
 pub fn make_build(pattern: Pattern) -> Strategy
     ensures { result ≡ syntax.builds pattern }
 {
-    Strategy::new(StrategyForm::Build(pattern))
+    let place = pattern.place();
+    Strategy::new(StrategyForm::Build(pattern)).at(place)
 }
 
-/// `s1; s2`
+/// `s1; s2`, from the first to the last token of the two.
 pub fn make_seq(alloc: Global, first: Strategy, second: Strategy) -> Result<Strategy, NoMemory>
     ensures { IfOk result (λ made. made ≡ syntax.seq first second) }
 {
+    let place = first.place().to(second.place());
     let parts = Box::new(alloc, (first, second))?;
-    Ok(Strategy::new(StrategyForm::Seq(parts)))
+    Ok(Strategy::new(StrategyForm::Seq(parts)).at(place))
 }
 
-/// `s1 < s2 + s3`
+/// The core form of `< s > p`.
+pub fn make_applied(
+    alloc: Global,
+    strategy: Strategy,
+    pattern: Pattern,
+) -> Result<Strategy, NoMemory>
+    ensures { IfOk result (λ made. made ≡ syntax.seq (syntax.builds pattern) strategy) }
+{
+    let place = strategy.place().begun(1).to(pattern.place());
+    Ok(make_seq(alloc, make_build(pattern), strategy)?.at(place))
+}
+
+/// `s1 < s2 + s3`, from the first token of `s1` to the last one of `s3`.
 pub fn make_guard(
     alloc: Global,
     tested: Strategy,
@@ -59,19 +75,21 @@ pub fn make_guard(
 ) -> Result<Strategy, NoMemory>
     ensures { IfOk result (λ made. made ≡ syntax.guard tested then otherwise) }
 {
+    let place = tested.place().to(otherwise.place());
     let parts = Box::new(alloc, (tested, then, otherwise))?;
-    Ok(Strategy::new(StrategyForm::Guard(parts)))
+    Ok(Strategy::new(StrategyForm::Guard(parts)).at(place))
 }
 
-/// `where(s)`
+/// `where(s)`, at the place of `s`.
 pub fn make_test(alloc: Global, strategy: Strategy) -> Result<Strategy, NoMemory>
     ensures { IfOk result (λ made. made ≡ syntax.test strategy) }
 {
+    let place = strategy.place();
     let strategy = Box::new(alloc, strategy)?;
-    Ok(Strategy::new(StrategyForm::Test(strategy)))
+    Ok(Strategy::new(StrategyForm::Test(strategy)).at(place))
 }
 
-/// The core form of `if s1 then s2 else s3 end`.
+/// The core form of `if s1 then s2 else s3 end`, where `s3` is the last part before `end`.
 pub fn make_if(
     alloc: Global,
     tested: Strategy,
@@ -80,8 +98,9 @@ pub fn make_if(
 ) -> Result<Strategy, NoMemory>
     ensures { IfOk result (λ made. made ≡ syntax.guard (syntax.test tested) then otherwise) }
 {
+    let place = tested.place().begun(1).to(otherwise.place()).closed();
     match make_test(alloc, tested) {
-        Ok(tested) => make_guard(alloc, tested, then, otherwise),
+        Ok(tested) => Ok(make_guard(alloc, tested, then, otherwise)?.at(place)),
         Err(error) => {
             drop(otherwise);
             drop(then);
@@ -90,7 +109,7 @@ pub fn make_if(
     }
 }
 
-/// The core form of a word before a strategy in brackets.
+/// The core form of a word before a strategy in brackets. What it makes has its place.
 pub fn make_operated(
     alloc: Global,
     operator: Operator,
@@ -98,22 +117,25 @@ pub fn make_operated(
 ) -> Result<Strategy, NoMemory>
     ensures { IfOk result (λ made. made ≡ operated operator strategy) }
 {
+    let place = strategy.place().begun(2).closed();
     match operator {
         Operator::All => {
             let strategy = Box::new(alloc, strategy)?;
-            Ok(Strategy::new(StrategyForm::All(strategy)))
+            Ok(Strategy::new(StrategyForm::All(strategy)).at(place))
         }
         Operator::One => {
             let strategy = Box::new(alloc, strategy)?;
-            Ok(Strategy::new(StrategyForm::One(strategy)))
+            Ok(Strategy::new(StrategyForm::One(strategy)).at(place))
         }
         Operator::Some => {
             let strategy = Box::new(alloc, strategy)?;
-            Ok(Strategy::new(StrategyForm::Some(strategy)))
+            Ok(Strategy::new(StrategyForm::Some(strategy)).at(place))
         }
-        Operator::Not => make_guard(alloc, strategy, make_fail(), make_id()),
-        Operator::Where => make_test(alloc, strategy),
-        Operator::Test => make_test(alloc, strategy),
+        Operator::Not => {
+            let (fail, id) = (make_fail().at(place), make_id().at(place));
+            Ok(make_guard(alloc, strategy, fail, id)?.at(place))
+        }
+        Operator::Where | Operator::Test => Ok(make_test(alloc, strategy)?.at(place)),
     }
 }
 
@@ -121,19 +143,21 @@ pub fn make_operated(
 pub fn make_rec(alloc: Global, name: Name, strategy: Strategy) -> Result<Strategy, NoMemory>
     ensures { IfOk result (λ made. made ≡ syntax.rec name strategy) }
 {
+    let place = strategy.place().begun(3).closed();
     let strategy = Box::new(alloc, strategy)?;
-    Ok(Strategy::new(StrategyForm::Rec(name, strategy)))
+    Ok(Strategy::new(StrategyForm::Rec(name, strategy)).at(place))
 }
 
 /// `i(s)`
 pub fn make_child(alloc: Global, index: usize, strategy: Strategy) -> Result<Strategy, NoMemory>
     ensures { IfOk result (λ made. made ≡ syntax.child index strategy) }
 {
+    let place = strategy.place().begun(2).closed();
     let strategy = Box::new(alloc, strategy)?;
-    Ok(Strategy::new(StrategyForm::Child(index, strategy)))
+    Ok(Strategy::new(StrategyForm::Child(index, strategy)).at(place))
 }
 
-/// `{x1,..,xn: s}`
+/// `{x1,..,xn: s}`, at the place of `s`.
 pub fn make_scope(
     alloc: Global,
     names: ItemList<Name>,
@@ -141,8 +165,28 @@ pub fn make_scope(
 ) -> Result<Strategy, NoMemory>
     ensures { IfOk result (λ made. made ≡ syntax.scope names strategy) }
 {
+    let place = strategy.place();
     let strategy = Box::new(alloc, strategy)?;
-    Ok(Strategy::new(StrategyForm::Scope(names.into_vec(), strategy)))
+    Ok(Strategy::new(StrategyForm::Scope(names.into_vec(), strategy)).at(place))
+}
+
+/// `{x1,..,xn: s}`, with its brackets.
+pub fn make_written_scope(
+    alloc: Global,
+    names: ItemList<Name>,
+    strategy: Strategy,
+) -> Result<Strategy, NoMemory>
+    ensures { IfOk result (λ made. made ≡ syntax.scope names strategy) }
+{
+    // `{`, and each name with a comma or a colon after it, or a colon alone
+    let before = names
+        .as_slice()
+        .len()
+        .saturating_mul(2)
+        .saturating_add(1)
+        .max(2);
+    let place = strategy.place().begun(before).closed();
+    Ok(make_scope(alloc, names, strategy)?.at(place))
 }
 
 /// The core form of a rule without a condition, from its two patterns.
@@ -161,8 +205,10 @@ pub fn make_rewrite_where(
 ) -> Result<Strategy, NoMemory>
     ensures { IfOk result (λ made. made ≡ rewrite_where left right condition) }
 {
+    // the condition comes last in the text
+    let place = right.place().to(condition.place());
     let condition = make_test(alloc, condition)?;
-    let rest = make_seq(alloc, condition, make_build(right))?;
+    let rest = make_seq(alloc, condition, make_build(right))?.at(place);
     make_seq(alloc, make_match(left), rest)
 }
 
@@ -173,7 +219,8 @@ pub fn make_closure(alloc: Global, left: Pattern, right: Pattern) -> Result<Stra
 {
     let names = scope_of(alloc, &left)?;
     let body = make_rewrite(alloc, left, right)?;
-    make_scope(alloc, names, body)
+    let place = body.place().begun(1).closed();
+    Ok(make_scope(alloc, names, body)?.at(place))
 }
 
 /// `\ l -> r where s \`
@@ -189,7 +236,8 @@ pub fn make_closure_where(
     match scope_of(alloc, &left) {
         Ok(names) => {
             let body = make_rewrite_where(alloc, left, right, condition)?;
-            make_scope(alloc, names, body)
+            let place = body.place().begun(1).closed();
+            Ok(make_scope(alloc, names, body)?.at(place))
         }
         Err(error) => {
             drop(condition);
@@ -209,6 +257,10 @@ pub fn make_square_tail(
     ensures { IfOk result (λ made.
         made ≡ syntax.tail_congruence (syntax.strategies_of strategies) tail) }
 {
+    let place = first_strategy_place(strategies.as_slice(), tail.place())
+        .begun(1)
+        .to(tail.place())
+        .closed();
     let tail = Box::new(alloc, tail)?;
-    Ok(Strategy::new(StrategyForm::TailCongruence(strategies.into_vec(), tail)))
+    Ok(Strategy::new(StrategyForm::TailCongruence(strategies.into_vec(), tail)).at(place))
 }

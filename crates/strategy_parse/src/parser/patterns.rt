@@ -9,34 +9,38 @@ ghost use Rattle.strategy_parse.specs.declared.parser.state.ParserFrame.{ParserF
 
 use crate::parser::after::after;
 use crate::parser::fault::SyntaxFault;
-use crate::parser::group::{close_patterns, closing_sign_of};
+use crate::parser::group::{close_patterns, closing_sign_of, first_pattern_place};
 use crate::parser::lists::ItemList;
-use crate::parser::make::{make_build, make_closure, make_match, make_seq};
+use crate::parser::make::{make_applied, make_build, make_closure, make_match, make_seq};
 use crate::parser::stack::ParserStack;
 use crate::parser::state::{
     Effect, ParserFrame, ParserState, PatternFrame, PatternGroup, StrategyFrame,
 };
 use std::alloc::Global;
-use strategy_syntax::{Head, Pattern, PatternForm};
+use strategy_syntax::{Head, Pattern, PatternForm, Place};
 use strategy_tokens::{Keyword, Sign, Token, is_mark, is_word};
 use term_core::{Name, NoMemory};
 
 /// A pattern has to begin here.
-pub fn begin_pattern(alloc: Global, token: &Token) -> Result<Effect, SyntaxFault>
+pub fn begin_pattern(alloc: Global, token: &Token, place: Place) -> Result<Effect, SyntaxFault>
     ensures ok { IfOk result (λ o. (S : List ParserFrame) →
         machine.begin_pattern S token.now ≡ machine.leads o S) }
     ensures none { result ≡ Err SyntaxFault.Syntax → (S : List ParserFrame) →
         machine.begin_pattern S token.now ≡ machine.stuck }
 {
     match token {
-        Token::Wildcard => Ok(Effect::Goes(ParserState::Base(Pattern::new(PatternForm::Wildcard)))),
+        Token::Wildcard => {
+            let pattern = Pattern::new(PatternForm::Wildcard).at(place);
+            Ok(Effect::Goes(ParserState::Base(pattern)))
+        }
         Token::Ident(name) => Ok(Effect::Goes(ParserState::Named(name.try_clone()?))),
         Token::Integer(value) => {
-            Ok(Effect::Goes(ParserState::Base(Pattern::new(PatternForm::Integer(*value)))))
+            let pattern = Pattern::new(PatternForm::Integer(*value)).at(place);
+            Ok(Effect::Goes(ParserState::Base(pattern)))
         }
         Token::Text(name) => {
             let head = Head::Application(name.try_clone()?);
-            let pattern = Pattern::new(PatternForm::Compound(head, Vec::new(alloc)));
+            let pattern = Pattern::new(PatternForm::Compound(head, Vec::new(alloc))).at(place);
             Ok(Effect::Goes(ParserState::Base(pattern)))
         }
         Token::Sign(sign) => open_pattern(*sign),
@@ -64,6 +68,7 @@ pub fn first_pattern(
     group: PatternGroup,
     stack: &mut ParserStack,
     token: &Token,
+    place: Place,
 ) -> Result<Effect, SyntaxFault>
     ensures ok { IfOk result (λ o.
         machine.first_pattern group (forms stack.old) token.now
@@ -72,10 +77,10 @@ pub fn first_pattern(
         machine.first_pattern group (forms stack.old) token.now ≡ machine.stuck }
 {
     if is_mark(token, closing_sign_of(&group)) {
-        return Ok(Effect::Goes(close_patterns(alloc, group, ItemList::new(alloc))?));
+        return Ok(Effect::Goes(close_patterns(alloc, group, ItemList::new(alloc), place)?));
     }
     stack.push(ParserFrame::Pattern(PatternFrame::List(group, ItemList::new(alloc))))?;
-    begin_pattern(alloc, token)
+    begin_pattern(alloc, token, place)
 }
 
 /// After a pattern that may still get annotations.
@@ -122,8 +127,9 @@ pub fn after_pattern(
 fn make_at(alloc: Global, name: Name, pattern: Pattern) -> Result<Pattern, NoMemory>
     ensures { IfOk result (λ made. made ≡ syntax.at name pattern) }
 {
+    let place = pattern.place().begun(2);
     let pattern = Box::new(alloc, pattern)?;
-    Ok(Pattern::new(PatternForm::At(name, pattern)))
+    Ok(Pattern::new(PatternForm::At(name, pattern)).at(place))
 }
 
 // After a whole pattern without an `x@` before it. One that stands alone ends as the strategy that
@@ -166,10 +172,16 @@ fn pattern_in_frame(
         machine.pattern_in_frame pattern frame (forms stack.old) token.now ≡ machine.stuck }
 {
     match frame {
-        PatternFrame::Match => after(alloc, make_match(pattern), stack, token),
-        PatternFrame::Build => after(alloc, make_build(pattern), stack, token),
+        PatternFrame::Match => {
+            let place = pattern.place().begun(1);
+            after(alloc, make_match(pattern).at(place), stack, token)
+        }
+        PatternFrame::Build => {
+            let place = pattern.place().begun(1);
+            after(alloc, make_build(pattern).at(place), stack, token)
+        }
         PatternFrame::Applied(strategy) => {
-            let whole = make_seq(alloc, make_build(pattern), strategy)?;
+            let whole = make_applied(alloc, strategy, pattern)?;
             after(alloc, whole, stack, token)
         }
         PatternFrame::Matched(strategy) => {
@@ -179,7 +191,8 @@ fn pattern_in_frame(
         PatternFrame::Left => after_left(pattern, stack, token),
         PatternFrame::Right(left) => after_closure(alloc, left, pattern, stack, token),
         PatternFrame::List(group, done) => {
-            after_one(alloc, group, done.with(pattern)?, stack, token)
+            let next = pattern.place().next();
+            after_one(alloc, group, done.with(pattern)?, stack, token, next)
         }
         PatternFrame::Tail(done) => after_tail(alloc, done, pattern, token),
     }
@@ -230,8 +243,12 @@ fn make_with_tail(
 ) -> Result<Pattern, NoMemory>
     ensures { IfOk result (λ made. made ≡ syntax.with_tail (syntax.patterns_of done) tail) }
 {
+    let place = first_pattern_place(done.as_slice(), tail.place())
+        .begun(1)
+        .to(tail.place())
+        .closed();
     let tail = Box::new(alloc, tail)?;
-    Ok(Pattern::new(PatternForm::WithTail(done.into_vec(), tail)))
+    Ok(Pattern::new(PatternForm::WithTail(done.into_vec(), tail)).at(place))
 }
 
 // After the right side of a closure.
@@ -268,6 +285,7 @@ fn after_one(
     done: ItemList<Pattern>,
     stack: &mut ParserStack,
     token: &Token,
+    place: Place,
 ) -> Result<Effect, SyntaxFault>
     ensures ok { IfOk result (λ o.
         machine.after_one group done (forms stack.old) token.now
@@ -280,7 +298,7 @@ fn after_one(
         return Ok(Effect::Goes(ParserState::Pattern));
     }
     if is_mark(token, closing_sign_of(&group)) {
-        return Ok(Effect::Goes(close_patterns(alloc, group, done)?));
+        return Ok(Effect::Goes(close_patterns(alloc, group, done, place)?));
     }
     if is_mark(token, Sign::Bar) {
         return pattern_bar(group, done, stack);

@@ -15,7 +15,7 @@ use crate::parser::stack::ParserStack;
 use crate::parser::state::{Effect, ParserState};
 use crate::parser::step::step;
 use std::alloc::Global;
-use strategy_syntax::{Pattern, Strategy, StrategyForm};
+use strategy_syntax::{Pattern, Place, Strategy, StrategyForm};
 use strategy_tokens::Token;
 
 /// The strategy at the start of the tokens, as long as possible, and the rest.
@@ -74,13 +74,13 @@ fn run<'a>(
     let mut stack = bottom;
     let mut left = tokens;
     while let Some((token, rest)) = left.split_first() {
-        match step(alloc, state, &mut stack, token)? {
+        match step(alloc, state, &mut stack, token, Place::of_token(left.len()))? {
             Effect::Goes(next) => state = next,
             Effect::Ends(strategy) => return Ok((strategy, left)),
         }
         left = rest;
     }
-    match step(alloc, state, &mut stack, &Token::Bad)? {
+    match step(alloc, state, &mut stack, &Token::Bad, Place::of_token(0))? {
         Effect::Ends(strategy) => Ok((strategy, left)),
         Effect::Goes(next) => {
             drop(next);

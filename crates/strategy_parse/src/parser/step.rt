@@ -17,16 +17,17 @@ use crate::parser::state::{
 };
 use crate::parser::strategies::{begin, first_strategy};
 use std::alloc::Global;
-use strategy_syntax::{Pattern, PatternForm, Strategy, StrategyForm};
+use strategy_syntax::{Pattern, PatternForm, Place, Strategy, StrategyForm};
 use strategy_tokens::{Sign, Token, is_mark};
 use term_core::Name;
 
-/// Reads one token.
+/// Reads one token, which stands there.
 pub fn step(
     alloc: Global,
     state: ParserState,
     stack: &mut ParserStack,
     token: &Token,
+    place: Place,
 ) -> Result<Effect, SyntaxFault>
     ensures ok { IfOk result (λ o.
         machine.step state (forms stack.old) token.now ≡ machine.leads o (forms stack.new)) }
@@ -34,10 +35,10 @@ pub fn step(
         machine.step state (forms stack.old) token.now ≡ machine.stuck }
 {
     match state {
-        ParserState::Strategy => begin(stack, token),
-        ParserState::FirstStrategy(group) => first_strategy(alloc, group, stack, token),
+        ParserState::Strategy => begin(stack, token, place),
+        ParserState::FirstStrategy(group) => first_strategy(alloc, group, stack, token, place),
         ParserState::Read(strategy) => after(alloc, strategy, stack, token),
-        ParserState::Used(name) => after_used(alloc, name, stack, token),
+        ParserState::Used(name) => after_used(alloc, name, stack, token, place),
         ParserState::Opening(frame) => open_frame(frame, stack, token),
         ParserState::Rec => rec_name(token),
         ParserState::Prim => {
@@ -45,13 +46,13 @@ pub fn step(
             Ok(Effect::Goes(ParserState::PrimOpen))
         }
         ParserState::PrimOpen => prim_name(token),
-        ParserState::PrimNamed(name) => after_prim(alloc, name, stack, token),
+        ParserState::PrimNamed(name) => after_prim(alloc, name, stack, token, place),
         ParserState::ScopeOpen => first_scope_name(alloc, stack, token),
         ParserState::ScopeComma(names) => scope_name(names, token),
         ParserState::ScopeNamed(names) => after_scope_name(names, stack, token),
-        ParserState::Pattern => begin_pattern(alloc, token),
-        ParserState::FirstPattern(group) => first_pattern(alloc, group, stack, token),
-        ParserState::Named(name) => after_named(alloc, name, stack, token),
+        ParserState::Pattern => begin_pattern(alloc, token, place),
+        ParserState::FirstPattern(group) => first_pattern(alloc, group, stack, token, place),
+        ParserState::Named(name) => after_named(alloc, name, stack, token, place),
         ParserState::Base(pattern) => after_base(alloc, pattern, stack, token),
         ParserState::Whole(pattern) => after_pattern(alloc, pattern, stack, token),
     }
@@ -63,6 +64,7 @@ fn after_used(
     name: Name,
     stack: &mut ParserStack,
     token: &Token,
+    place: Place,
 ) -> Result<Effect, SyntaxFault>
     ensures ok { IfOk result (λ o.
         machine.step (ParserState.Used name) (forms stack.old) token.now
@@ -74,7 +76,12 @@ fn after_used(
         return Ok(Effect::Goes(ParserState::FirstStrategy(StrategyGroup::Arguments(name))));
     }
     let form = StrategyForm::Use(name, Vec::new(alloc), Vec::new(alloc));
-    after(alloc, Strategy::new(form), stack, token)
+    after(
+        alloc,
+        Strategy::new(form).at(place.previous()),
+        stack,
+        token,
+    )
 }
 
 // After a word that comes before a strategy in brackets.
@@ -131,6 +138,7 @@ fn after_prim(
     name: Name,
     stack: &mut ParserStack,
     token: &Token,
+    place: Place,
 ) -> Result<Effect, SyntaxFault>
     ensures ok { IfOk result (λ o.
         machine.step (ParserState.PrimNamed name) (forms stack.old) token.now
@@ -147,7 +155,8 @@ fn after_prim(
     }
     if is_mark(token, Sign::CloseRound) {
         let form = StrategyForm::Prim(name, Vec::new(alloc));
-        return Ok(Effect::Goes(ParserState::Read(Strategy::new(form))));
+        let strategy = Strategy::new(form).at(place.begun(3));
+        return Ok(Effect::Goes(ParserState::Read(strategy)));
     }
     drop(name);
     Err(SyntaxFault::Syntax)
@@ -226,6 +235,7 @@ fn after_named(
     name: Name,
     stack: &mut ParserStack,
     token: &Token,
+    place: Place,
 ) -> Result<Effect, SyntaxFault>
     ensures ok { IfOk result (λ o.
         machine.step (ParserState.Named name) (forms stack.old) token.now
@@ -240,10 +250,6 @@ fn after_named(
         stack.push(ParserFrame::At(name))?;
         return Ok(Effect::Goes(ParserState::Pattern));
     }
-    after_base(
-        alloc,
-        Pattern::new(PatternForm::Variable(name)),
-        stack,
-        token,
-    )
+    let pattern = Pattern::new(PatternForm::Variable(name)).at(place.previous());
+    after_base(alloc, pattern, stack, token)
 }

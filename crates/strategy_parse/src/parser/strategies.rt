@@ -16,10 +16,11 @@ use crate::parser::state::{
     StrategyGroup,
 };
 use std::alloc::Global;
+use strategy_syntax::Place;
 use strategy_tokens::{Keyword, Sign, Token, is_mark};
 
 /// A strategy has to begin here.
-pub fn begin(stack: &mut ParserStack, token: &Token) -> Result<Effect, SyntaxFault>
+pub fn begin(stack: &mut ParserStack, token: &Token, place: Place) -> Result<Effect, SyntaxFault>
     ensures ok { IfOk result (λ o. machine.begin (forms stack.old) token.now
         ≡ machine.leads o (forms stack.new)) }
     ensures none { result ≡ Err SyntaxFault.Syntax → machine.begin (forms stack.old) token.now
@@ -27,7 +28,7 @@ pub fn begin(stack: &mut ParserStack, token: &Token) -> Result<Effect, SyntaxFau
 {
     match token {
         Token::Sign(sign) => begin_sign(stack, *sign),
-        Token::Reserved(word) => begin_word(stack, *word),
+        Token::Reserved(word) => begin_word(stack, *word, place),
         Token::Ident(name) => Ok(Effect::Goes(ParserState::Used(name.try_clone()?))),
         Token::Integer(index) => begin_child(*index),
         _ => Err(SyntaxFault::Syntax),
@@ -64,15 +65,15 @@ fn begin_sign(stack: &mut ParserStack, sign: Sign) -> Result<Effect, SyntaxFault
     }
 }
 
-fn begin_word(stack: &mut ParserStack, word: Keyword) -> Result<Effect, SyntaxFault>
+fn begin_word(stack: &mut ParserStack, word: Keyword, place: Place) -> Result<Effect, SyntaxFault>
     ensures ok { IfOk result (λ o. machine.begin_word (forms stack.old) word
         ≡ machine.leads o (forms stack.new)) }
     ensures none { result ≡ Err SyntaxFault.Syntax → machine.begin_word (forms stack.old) word
         ≡ machine.stuck }
 {
     match word {
-        Keyword::Id => Ok(Effect::Goes(ParserState::Read(make_id()))),
-        Keyword::Fail => Ok(Effect::Goes(ParserState::Read(make_fail()))),
+        Keyword::Id => Ok(Effect::Goes(ParserState::Read(make_id().at(place)))),
+        Keyword::Fail => Ok(Effect::Goes(ParserState::Read(make_fail().at(place)))),
         Keyword::All => Ok(Effect::Goes(ParserState::Opening(StrategyFrame::Operator(
             Operator::All,
         )))),
@@ -120,6 +121,7 @@ pub fn first_strategy(
     group: StrategyGroup,
     stack: &mut ParserStack,
     token: &Token,
+    place: Place,
 ) -> Result<Effect, SyntaxFault>
     ensures ok { IfOk result (λ o.
         machine.first_strategy group (forms stack.old) token.now
@@ -128,14 +130,14 @@ pub fn first_strategy(
         machine.first_strategy group (forms stack.old) token.now ≡ machine.stuck }
 {
     if is_mark(token, closing_of(&group)) {
-        let whole = make_group(alloc, group, ItemList::new(alloc));
+        let whole = make_group(alloc, group, ItemList::new(alloc), place);
         return Ok(Effect::Goes(ParserState::Read(whole)));
     }
     if is_mark(token, Sign::Bar) {
         return empty_bar(alloc, group);
     }
     stack.push(ParserFrame::Strategy(StrategyFrame::List(group, ItemList::new(alloc))))?;
-    begin(stack, token)
+    begin(stack, token, place)
 }
 
 // A `|` right after an opening bracket.

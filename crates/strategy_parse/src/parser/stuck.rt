@@ -9,6 +9,7 @@ use crate::parser::stack::ParserStack;
 use crate::parser::state::{Effect, ParserState};
 use crate::parser::step::step;
 use std::alloc::Global;
+use strategy_syntax::Place;
 use strategy_tokens::Token;
 use term_core::NoMemory;
 
@@ -55,7 +56,7 @@ fn pass<'a>(
     let mut stack = ParserStack::new(alloc);
     let mut left = tokens;
     while let Some((token, rest)) = left.split_first() {
-        match step(alloc, state, &mut stack, token) {
+        match step(alloc, state, &mut stack, token, Place::nowhere()) {
             Ok(Effect::Goes(next)) => state = next,
             Ok(Effect::Ends(strategy)) => {
                 drop(strategy);

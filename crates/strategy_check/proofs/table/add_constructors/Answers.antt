@@ -9,7 +9,7 @@ pub loop-constructor-preserved : goal.loop-constructor-preserved
 loop-constructor-preserved c =
     let d = c.constructor-item.result in
     let key : c.in_ok-constructor_of.field-0 ≡ d =
-    c.in_ok-constructor_of.ensures ∙ (λ i. record { name = c.name.ensures i; arity = c.arity.ensures i }) in
+    c.in_ok-constructor_of.ensures ∙ (λ i. record { name = c.name.ensures i; arity = c.arity.ensures i }) ∙ c.item-declaration.ensures in
     let keys : c.insert.new.self.keys ≡ insert_key same_constructor c.loop-constructor.declared.keys d =
     c.in_ok-insert.ensures.keys ∙ ap (insert_key same_constructor c.loop-constructor.declared.keys) key in
     ap (λ ks. with_new same_constructor ks (drop (c.loop-constructor.constructor-index + 1) c.args.constructors.now)) keys

@@ -1,4 +1,4 @@
-use Rattle.std.proofs.Common.{ap, sym, Err}
+use Rattle.std.proofs.Common.{◌∙◌, ap, sym, Err, [], ◌∷◌, ◌++◌}
 use Rattle.strategy_parse.proofs.DeclarationLemmas.{DeclarationFound, declaration_found}
 use Rattle.strategy_parse.specs.inside.ModuleFronts.{listed}
 use Rattle.strategy_parse.proofs.ModuleFrames.{declaration_shorter}
@@ -28,12 +28,12 @@ returns-in-None-clause-shorter c =
 pub returns-in_ok-push-in-Some-clause-forth : goal.returns-in_ok-push-in-Some-clause-forth
 returns-in_ok-push-in-Some-clause-forth c = λ m.
     declaration_taken c.args.built.now.constructors.items c.push.new.self.items c.args.built.now.definitions.items c.args.tokens.now m c.in_ok-declared.declared c.in_ok-declared.rest.now
-    (one_listed c.args.built.now.constructors.items c.push.new.self.items c.in_ok-declared.declared c.in-Some.constructor c.in-Some.is c.in_ok-push-in-Some.ensures.items) c.in_ok-declared.ensures.ok c.requires
+    (one_listed c.args.built.now.constructors.items c.push.new.self.items c.in_ok-declared.declared c.in-Some.constructor c.in-Some.is (c.in_ok-push-in-Some.ensures.items ∙ ap (λ k. c.args.built.now.constructors.items ++ k ∷ []) c.new.ensures)) c.in_ok-declared.ensures.ok c.requires
 
 pub returns-in_ok-push-in-Some-clause-back : goal.returns-in_ok-push-in-Some-clause-back
 returns-in_ok-push-in-Some-clause-back c = λ m.
     declaration_given c.args.built.now.constructors.items c.push.new.self.items c.args.built.now.definitions.items c.args.tokens.now m c.in_ok-declared.declared c.in_ok-declared.rest.now
-    (one_listed c.args.built.now.constructors.items c.push.new.self.items c.in_ok-declared.declared c.in-Some.constructor c.in-Some.is c.in_ok-push-in-Some.ensures.items) c.in_ok-declared.ensures.ok
+    (one_listed c.args.built.now.constructors.items c.push.new.self.items c.in_ok-declared.declared c.in-Some.constructor c.in-Some.is (c.in_ok-push-in-Some.ensures.items ∙ ap (λ k. c.args.built.now.constructors.items ++ k ∷ []) c.new.ensures)) c.in_ok-declared.ensures.ok
 
 pub returns-in_ok-push-in-Some-clause-shorter : goal.returns-in_ok-push-in-Some-clause-shorter
 returns-in_ok-push-in-Some-clause-shorter c =

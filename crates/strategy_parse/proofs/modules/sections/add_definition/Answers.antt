@@ -1,4 +1,4 @@
-use Rattle.std.proofs.Common.{ap, sym, subst, Err}
+use Rattle.std.proofs.Common.{◌∙◌, ap, sym, subst, Err, [], ◌∷◌, ◌++◌}
 use Rattle.strategy_parse.specs.declared.modules.sections.Context.TheVariants.{Definitions}
 use Rattle.strategy_parse.specs.inside.Definitions.{DefinitionGives}
 use Rattle.strategy_parse.specs.inside.Sections.{SectionStands}
@@ -13,13 +13,13 @@ returns-in_err-definition-clause-none c = λ e m.
 
 pub returns-clause-forth : goal.returns-clause-forth
 returns-clause-forth c = λ m s.
-    subst (λ l. SectionStands Definitions c.args.built.now.constructors.items l c.in_ok-definition.rest.now m) (sym c.in_ok-push.ensures.items)
+    subst (λ l. SectionStands Definitions c.args.built.now.constructors.items l c.in_ok-definition.rest.now m) (sym (c.in_ok-push.ensures.items ∙ ap (λ d. c.args.built.now.definitions.items ++ d ∷ []) c.at.ensures))
     (definition_forth c.args.built.now.constructors.items c.args.built.now.definitions.items c.args.tokens.now m c.requires c.in_ok-definition.definition c.in_ok-definition.rest.now c.in_ok-definition.ensures.only s)
 
 pub returns-clause-back : goal.returns-clause-back
 returns-clause-back c = λ m s.
     definition_after c.args.built.now.constructors.items c.args.built.now.definitions.items c.args.tokens.now c.in_ok-definition.rest.now m c.in_ok-definition.definition c.in_ok-definition.ensures.given
-    (subst (λ l. SectionStands Definitions c.args.built.now.constructors.items l c.in_ok-definition.rest.now m) c.in_ok-push.ensures.items s)
+    (subst (λ l. SectionStands Definitions c.args.built.now.constructors.items l c.in_ok-definition.rest.now m) (c.in_ok-push.ensures.items ∙ ap (λ d. c.args.built.now.definitions.items ++ d ∷ []) c.at.ensures) s)
 
 pub returns-clause-shorter : goal.returns-clause-shorter
 returns-clause-shorter c =
