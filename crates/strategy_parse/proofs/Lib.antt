@@ -16,6 +16,7 @@ pub mod VariableLemmas
 pub mod SortLemmas
 pub mod HeaderLemmas
 pub mod DeclarationLemmas
+pub mod StandingLemmas
 pub mod SectionWords
 pub mod SectionItems
 pub mod SectionLemmas

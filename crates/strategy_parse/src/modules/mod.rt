@@ -14,6 +14,8 @@ mod sorts;
 mod stuck;
 mod tokens;
 
+pub use declarations::read_declaration;
+pub use definitions::read_definition;
 pub use items::{DefinitionTokens, definition_tokens};
 pub use parse::parse_module;
 pub use stuck::{StuckModule, stuck_module};
