@@ -23,7 +23,7 @@ use strategy_syntax::{
 };
 use term_core::{Name, NoMemory};
 
-/// Resolves the strategy, whose names have no faults.
+/// Resolves the strategy, whose names have no faults. Each part keeps its place.
 #[cycle(strategy)]
 pub fn resolve_strategy<M: Meaning>(
     alloc: Global,
@@ -37,7 +37,7 @@ pub fn resolve_strategy<M: Meaning>(
     ensures scope { OnOk result (scope.new ≡ scope.old) }
 {
     let form = resolve_form(alloc, table, primitives, scope, strategy)?;
-    Ok(ResolvedStrategy::new(form))
+    Ok(ResolvedStrategy::new(form).at(scope.text(), strategy.place()))
 }
 
 // Each level of a strategy takes a frame of the machine's stack here. It stays small because the

@@ -22,6 +22,8 @@ use term_core::NoMemory;
 #[derive(Drop)]
 pub struct DefinitionGroup<'a> {
     definitions: Vec<&'a Definition>,
+    // The number of their text. Contracts don't see it.
+    text: u32,
 }
 
 impl<'a> Model for DefinitionGroup<'a> {
@@ -43,12 +45,15 @@ impl<'a> DefinitionGroup<'a> {
     {
         DefinitionGroup {
             definitions: Vec::new(alloc),
+            text: 0,
         }
     }
 
-    fn push(&mut self, definition: &'a Definition) -> Result<(), NoMemory>
+    // Adds a definition of the text of this number. Modules without a fault don't share a key.
+    fn push(&mut self, definition: &'a Definition, text: u32) -> Result<(), NoMemory>
         ensures { OnOk result (self.new ≡ self.old ++ definition.now ∷ []) }
     {
+        self.text = text;
         self.definitions.push(definition)?;
         Ok(())
     }
@@ -64,7 +69,12 @@ pub fn group_definitions<'a>(
 {
     let mut groups = empty_groups(alloc, table.definitions.len())?;
     for named in modules {
-        add_to_groups(table, &mut groups, named.module().definitions())?;
+        add_to_groups(
+            table,
+            &mut groups,
+            named.module().definitions(),
+            named.text(),
+        )?;
     }
     Ok(groups)
 }
@@ -83,12 +93,13 @@ fn add_to_groups<'a>(
     table: &Table,
     groups: &mut Vec<DefinitionGroup<'a>>,
     definitions: &'a [Definition],
+    text: u32,
 ) -> Result<(), NoMemory>
     ensures { OnOk result (groups.new.items
         ≡ with_definitions table.now groups.old.items definitions.now) }
 {
     for definition in definitions {
-        add_to_group(table, groups, definition)?;
+        add_to_group(table, groups, definition, text)?;
     }
     Ok(())
 }
@@ -97,6 +108,7 @@ fn add_to_group<'a>(
     table: &Table,
     groups: &mut Vec<DefinitionGroup<'a>>,
     definition: &'a Definition,
+    text: u32,
 ) -> Result<(), NoMemory>
     ensures { OnOk result (groups.new.items
         ≡ with_definition table.now groups.old.items definition.now) }
@@ -107,7 +119,7 @@ fn add_to_group<'a>(
         return Ok(());
     };
     match groups.get_mut(number) {
-        Some(group) => group.push(definition),
+        Some(group) => group.push(definition, text),
         None => Ok(()),
     }
 }
@@ -194,7 +206,9 @@ fn resolve_bodies<M: Meaning>(
     let mut bodies = Vec::with_capacity(alloc, group.definitions.len())?;
     let mut next = first;
     for definition in &group.definitions {
-        let (body, free) = resolve_body(alloc, table, primitives, next, count, definition)?;
+        let (body, free) = resolve_body(
+            alloc, table, primitives, next, count, definition, group.text,
+        )?;
         bodies.push(body)?;
         next = next.checked_add(free).ok_or(NoMemory)?;
     }
@@ -209,6 +223,7 @@ fn resolve_body<M: Meaning>(
     first: usize,
     count: usize,
     definition: &Definition,
+    text: u32,
 ) -> Result<(ResolvedStrategy, usize), NoMemory>
     ensures { IfOk result (λ made. made ≡ (
       resolved_strategy table.now primitives.now
@@ -216,7 +231,8 @@ fn resolve_body<M: Meaning>(
       length (free_of definition.now),
     )) }
 {
-    let (mut scope, free) = scope_of(alloc, first, count, definition)?;
+    let (scope, free) = scope_of(alloc, first, count, definition)?;
+    let mut scope = scope.in_text(text);
     let body = resolve_strategy(alloc, table, primitives, &mut scope, definition.body())?;
     Ok((body, free))
 }

@@ -20,6 +20,8 @@ pub struct NamedModule {
     defines: Table,
     // What its bodies mention.
     mentions: Table,
+    // The number of its text. Contracts don't see it.
+    text: u32,
 }
 
 impl Model for NamedModule {
@@ -39,7 +41,7 @@ impl Model for NamedModule {
 }
 
 impl NamedModule {
-    /// The module with this name.
+    /// The module with this name, whose text has no number.
     pub fn new(alloc: Global, name: Label, module: Module) -> Result<NamedModule, NoMemory>
         ensures { IfOk result (λ named. named ≡ (name, «module»)) }
     {
@@ -51,7 +53,21 @@ impl NamedModule {
             module,
             defines,
             mentions,
+            text: 0,
         })
+    }
+
+    /// The same module, whose text has this number.
+    pub fn in_text(self, text: u32) -> NamedModule
+        ensures { result ≡ self }
+    {
+        NamedModule { text, ..self }
+    }
+
+    /// The number of its text, which its resolved definitions have, too. It stays when other
+    /// modules are replaced. Whoever keeps modules gives each text a number of its own, from 1 on.
+    pub fn text(&self) -> u32 {
+        self.text
     }
 
     /// Its name.

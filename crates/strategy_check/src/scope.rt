@@ -16,6 +16,8 @@ pub struct Scope {
     variables: Binders,
     count: usize,
     names: Binders,
+    // The number of the text that is resolved. Contracts don't see it.
+    text: u32,
 }
 
 impl Model for Scope {
@@ -27,8 +29,8 @@ impl Model for Scope {
 }
 
 impl Scope {
-    /// The scope of these variables and strategy names; further variables are numbered from `count`
-    /// on.
+    /// The scope of these variables and strategy names, in the text of a command; further variables
+    /// are numbered from `count` on.
     pub fn new(variables: Binders, count: usize, names: Binders) -> Scope
         ensures { result ≡ record { variables = variables; count = count; names = names } }
     {
@@ -36,7 +38,20 @@ impl Scope {
             variables,
             count,
             names,
+            text: 0,
         }
+    }
+
+    /// The same scope, in the text of this number.
+    pub fn in_text(self, text: u32) -> Scope
+        ensures { result ≡ self }
+    {
+        Scope { text, ..self }
+    }
+
+    /// The number of the text that is resolved.
+    pub fn text(&self) -> u32 {
+        self.text
     }
 
     /// The number of a variable; 0 if it has no binder.
