@@ -5,7 +5,7 @@ ghost use Rattle.term_changes.specs.Slots.{contents};
 ghost use Rattle.strategy_check.specs.Faults as faults;
 ghost use Rattle.session_modules.specs.Modules as modules;
 ghost use Rattle.session_modules.specs.Modules.{AreRefused, Checks, changed_text};
-ghost use Rattle.session_modules.specs.Kept.{IsCurrent, IsKept, program_in};
+ghost use Rattle.session_modules.specs.Kept.{Belong, IsCurrent, IsKept, program_in};
 
 use crate::Refusal;
 use crate::checked::CheckedTexts;
@@ -67,6 +67,15 @@ impl ModuleCache {
             Some(kept) => Some(kept.checked.program()),
             None => None,
         }
+    }
+
+    /// The modules that were checked last, with their texts, or `None` if none were.
+    pub fn last_modules(&self) -> Option<&CheckedTexts>
+        ensures value { option_copied result ≡ self.now.kept }
+        ensures belong { (ps : faults.Primitives) (texts : modules.Texts) → IsKept ps texts self.now
+            → IfSome result (λ kept. Belong ps kept.now) }
+    {
+        self.kept.as_ref()
     }
 
     /// The program of the checked modules.

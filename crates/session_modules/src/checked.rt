@@ -1,6 +1,6 @@
 //! Checked modules, each with the text that it was read from.
 
-ghost use Rattle.std.specs.Prelude.{◌≡◌, ◌⊎◌, ◌≤◌, ◌+◌, ◌-◌, ◌++◌, true, length, take, drop, Some, Err, IfOk, OnOk, IfErr, IfSome, IsSome, option_map};
+ghost use Rattle.std.specs.Prelude.{◌≡◌, ◌⊎◌, ◌≤◌, ◌<◌, ◌+◌, ◌-◌, ◌++◌, true, length, take, drop, slice_get, Some, Err, IfOk, OnOk, IfErr, IfSome, IsSome, option_copied, option_map};
 ghost use Rattle.std.specs.List.{AllByRecursion};
 ghost use Rattle.std.specs.FinMap as finmap;
 ghost use Rattle.term_changes.specs.Slots.{contents};
@@ -18,14 +18,17 @@ use change_log::{Store, Text};
 use prim_core::{Meaning, Primitives};
 use std::alloc::Global;
 use std::cmp::Ordering;
-use strategy_check::{Checked, NamedModule};
+use strategy_check::{Checked, NamedModule, Program};
 use term_core::{Label, NoMemory};
 
-/// Checked modules, with the text that each was read from, in the same order.
+/// Checked modules, with the text that each was read from, in the same order. Each text has a number
+/// that no other text of the session had before; it stays while the module isn't replaced.
 #[derive(Drop)]
 pub struct CheckedTexts {
     pub(crate) checked: Checked,
     pub(crate) texts: Vec<Text>,
+    // The greatest number that a text was given.
+    last: u32,
 }
 
 impl CheckedTexts {
@@ -41,10 +44,47 @@ impl CheckedTexts {
             Ok(checked) => Ok(CheckedTexts {
                 checked,
                 texts: Vec::new(alloc),
+                last: 0,
             }),
             // No modules have no fault.
             Err(_) => Err(Refusal::Memory),
         }
+    }
+
+    /// The checked modules, in the order of their names.
+    pub fn modules(&self) -> &[NamedModule]
+        ensures { result.now ≡ self.now.checked.modules }
+    {
+        self.checked.modules()
+    }
+
+    /// Their program.
+    pub fn program(&self) -> &Program
+        ensures { result.now ≡ self.now.checked.program }
+    {
+        self.checked.program()
+    }
+
+    /// The text that the module of this index was read from, or `None` if there is no such module.
+    pub fn text(&self, index: usize) -> Option<&[u8]>
+        ensures { option_copied result ≡ slice_get self.now.texts.items index }
+    {
+        match self.texts.get(index) {
+            Some(text) => Some(text.bytes()),
+            None => None,
+        }
+    }
+
+    /// The index of the module whose text has this number, as the parts of its definitions have it.
+    pub fn index_of(&self, number: u32) -> Option<usize>
+        ensures { IfSome result (λ index. index < length self.now.checked.modules) }
+    {
+        for (index, named) in self.modules().iter().enumerate() {
+            if named.text() == number {
+                return Some(index);
+            }
+        }
+        None
     }
 
     /// Makes them the modules of the store, if the checker finds no fault in these. Of the texts
@@ -70,7 +110,7 @@ impl CheckedTexts {
         let back = same_back(store, &names, modules, &self.texts, front);
         let gone = modules.len() - back - front;
         let changed = between(&names, front, names.len() - back);
-        let new = read_all(store, changed, read)?;
+        let new = read_all(store, changed, read, self.last)?;
         self.put(primitives, front, gone, new)
     }
 
@@ -96,7 +136,7 @@ impl CheckedTexts {
             (Err refusal))) }
         ensures err { IfErr result (λ refusal. (refusal ≡ Refusal.Memory) ⊎ (self.new ≡ self.old)) }
     {
-        let new = at_most_one(*self.texts.allocator(), name, read)?;
+        let new = at_most_one(*self.texts.allocator(), name, read, self.last)?;
         let (at, gone) = place_among(self.checked.modules(), name);
         self.put(primitives, at, gone, new)
     }
@@ -120,10 +160,17 @@ impl CheckedTexts {
             self.old.checked.modules) primitives.now)) refusal) }
         ensures err { IfErr result (λ refusal. (refusal ≡ Refusal.Memory) ⊎ (self.new ≡ self.old)) }
     {
-        let NewModules { modules, texts } = new;
+        let NewModules {
+            modules,
+            texts,
+            last,
+        } = new;
         let alloc = *self.texts.allocator();
         match self.checked.replace(alloc, primitives, at, gone, modules) {
-            Ok(()) => Ok(exchange(&mut self.texts, at, gone, texts)?),
+            Ok(()) => {
+                self.last = last;
+                Ok(exchange(&mut self.texts, at, gone, texts)?)
+            }
             Err(fault) => Err(Refusal::from(fault)),
         }
     }
@@ -134,12 +181,13 @@ fn at_most_one(
     alloc: Global,
     name: &Label,
     read: Option<ReadModule>,
+    last: u32,
 ) -> Result<NewModules, NoMemory>
     requires { IfSome read (λ r. r.1.0 ≡ name.now) }
     ensures given { IfOk result (λ new. AreGiven name.now (option_map (λ r. r.0) read) new.modules.items) }
     ensures read { IfOk result (λ new. AreReadFrom new.texts.items new.modules.items) }
 {
-    let mut new = NewModules::new(alloc);
+    let mut new = NewModules::new(alloc, last);
     match read {
         Some(read) => new.push(read)?,
         None => {}
@@ -239,6 +287,7 @@ fn read_all(
     store: &Store,
     names: &[Label],
     read: &mut Vec<ReadModule>,
+    last: u32,
 ) -> Result<NewModules, Refusal>
     requires { AllByRecursion (λ name. IsSome (finmap.get (contents store.now).modules name)) names.now }
     ensures ok { IfOk result (λ new. AreRead (contents store.now).modules names.now new.modules.items) }
@@ -246,7 +295,7 @@ fn read_all(
     ensures refused { IfErr result (λ refusal. (refusal ≡ Refusal.Memory)
         ⊎ IsUnread (contents store.now).modules refusal) }
 {
-    let mut new = NewModules::new(*read.allocator());
+    let mut new = NewModules::new(*read.allocator(), last);
     for name in names {
         let module = read_once(store, name, read)?;
         new.push(module)?;

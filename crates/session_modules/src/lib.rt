@@ -7,5 +7,6 @@ mod reading;
 mod refusal;
 
 pub use cache::ModuleCache;
+pub use checked::CheckedTexts;
 pub use reading::{ReadModule, module_text, read_module};
 pub use refusal::Refusal;

@@ -93,21 +93,26 @@ pub fn module_text<'a>(store: &'a Store, name: &Label) -> Option<&'a [u8]>
     store.module(slot)
 }
 
-/// Modules that were read, with their texts in the same order.
+/// Modules that were read, with their texts in the same order. Each text gets a number that none
+/// before it had.
 #[derive(Drop)]
 pub(crate) struct NewModules {
     pub(crate) modules: Vec<NamedModule>,
     pub(crate) texts: Vec<Text>,
+    // The greatest number that a text was given.
+    pub(crate) last: u32,
 }
 
 impl NewModules {
-    pub(crate) fn new(alloc: Global) -> NewModules
+    /// No modules; the texts of others have numbers up to `last`.
+    pub(crate) fn new(alloc: Global, last: u32) -> NewModules
         ensures modules { result.modules.items ≡ [] }
         ensures texts { result.texts.items ≡ [] }
     {
         NewModules {
             modules: Vec::new(alloc),
             texts: Vec::new(alloc),
+            last,
         }
     }
 
@@ -118,7 +123,8 @@ impl NewModules {
     {
         let (text, named) = read.into_parts();
         self.texts.push(text)?;
-        self.modules.push(named)?;
+        self.last = self.last.saturating_add(1);
+        self.modules.push(named.in_text(self.last))?;
         Ok(())
     }
 }
