@@ -9,7 +9,6 @@ Each file is read as a term (`stratbench.python`), the strategy is previewed on 
 from __future__ import annotations
 
 import argparse
-import codecs
 import contextlib
 import os
 import pickle
@@ -24,14 +23,12 @@ from concurrent.futures.process import BrokenProcessPool
 from itertools import repeat
 from typing import Final, NamedTuple
 
+from . import outcomes
 from .cluster import Cluster, Lost, Unreachable
-from .diff import unified
-from .patch import Edit, Unwritable, apply_edits, lost_comments, patch
-from .patch.tokens import Token
+from .patch import Unwritable
 from .places import Command, Text
-from .python import Source, deep, position
-from .terms import at as subterm
-from .terms import LIST, NoTerm, Term, exchange, height, read, size, write
+from .python import Source, deep
+from .terms import NoTerm, Term, exchange, height, read, size, write
 
 # The bounds of the workbench: levels, which are fixed, and what it is started with for terms and steps.
 MOST_LEVELS: Final = 1_000
@@ -121,14 +118,13 @@ def _outcome(name: str, source: Source, result: Result, task: Task) -> Outcome:
     if result.new is None:
         return Outcome(name, left=f"{name}: {result.left}", of_texts=result.of_texts, said=result.warnings)
     try:
-        edits, text, lost = _patched(source, result.new)
-        said = [f"{name}:{source.lines.number(it.first)}: comment lost: {it.text}" for it in lost]
-        if lost and task.keep_comments:
-            (edits, text), lost = _with_comments(source, result)
-            said = [f"{name}:{source.lines.number(it.first)}: left, since a comment would be lost: {it.text}" for it in lost]
-        if not edits:
-            return Outcome(name, said=tuple(said))
-        return Outcome(name, source.encoded(text), _diff(name, source, edits), said=tuple(said))
+        found, why = outcomes.rewritten(source, result.new), "comment lost"
+        if found.lost and task.keep_comments:
+            found, why = outcomes.with_comments(source, result.new, result.places), "left, since a comment would be lost"
+        said = tuple(f"{name}:{source.lines.number(it.first)}: {why}: {it.text}" for it in found.lost)
+        if not found.edits:
+            return Outcome(name, said=said)
+        return Outcome(name, source.encoded(found.text), outcomes.shown(name, source, found.edits), said=said)
     except (NoTerm, Unwritable) as error:
         return Outcome(name, left=f"{name}: the result is no program: {error}", fault="is no program")
     except UnicodeEncodeError as error:
@@ -138,55 +134,6 @@ def _outcome(name: str, source: Source, result: Result, task: Task) -> Outcome:
             left=f"{name}: the result doesn't fit the encoding {source.encoding}: it has {wrong!r}",
             fault=f"doesn't fit the encoding {source.encoding}",
         )
-
-
-# The edits for a new tree, the text after them, and the comments that it lacks.
-def _patched(source: Source, new: Term) -> tuple[list[Edit], bytes, list[Token]]:
-    edits = patch(source, new)
-    text = apply_edits(source.text, 0, len(source.text), edits)
-    return edits, text, lost_comments(source, edits, text)
-
-
-# The same without the places at which a comment would be lost, and these comments.
-def _with_comments(source: Source, result: Result) -> tuple[tuple[list[Edit], bytes], list[Token]]:
-    assert result.new is not None
-    places = {path: subterm(result.new, path) for path in result.places}
-    without: list[Token] = []
-    while True:
-        edits, text, lost = _patched(source, exchange(source.term, places))
-        if not lost:
-            return (edits, text), without
-        without += lost
-        for path in {_place_of(source, places, it) for it in lost}:
-            del places[path]
-
-
-# The place that a comment belongs to: the smallest in whose lines it is, or the last one before it.
-def _place_of(source: Source, places: Iterable[tuple[int, ...]], comment: Token) -> tuple[int, ...]:
-    found: list[tuple[bool, int, tuple[int, ...]]] = []
-    for path in places:
-        above = next((above for above in _up(source.term, path) if position(above) is not None), None)
-        first, last = (above and position(above)) or (0, len(source.text))
-        inside = source.lines.number(first) <= source.lines.number(comment.first) <= source.lines.number(last)
-        found.append((not inside, last - first if inside else abs(comment.first - last), path))
-    return min(found)[2]
-
-
-# The subterm at a path and those above it, from it on.
-def _up(term: Term, path: tuple[int, ...]) -> list[Term]:
-    found = [term]
-    for step in path:
-        found.append(found[-1].children[step])
-    return found[::-1]
-
-
-# A diff in the encoding of its file, and with its byte order mark, so that it can be applied to it.
-def _diff(name: str, source: Source, edits: Sequence[Edit]) -> bytes:
-    if source.encoding == "utf-8-sig":
-        mark = len(codecs.BOM_UTF8)
-        return unified(name, codecs.BOM_UTF8 + source.text, [Edit(it.first + mark, it.last + mark, it.text) for it in edits])
-    lines = unified(name, source.text, edits).splitlines(keepends=True)
-    return b"".join(line if at < 2 else line.decode().encode(source.encoding) for at, line in enumerate(lines))
 
 
 def transformed(sources: Sequence[Source], task: Task) -> list[Result]:

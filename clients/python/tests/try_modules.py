@@ -11,7 +11,7 @@ import traceback
 import warnings
 
 from stratbench import Stratbench, python, refactor, terms
-from stratbench.patch import patch
+from stratbench.patch import apply_edits, patch
 
 FOLDER = os.path.dirname(os.__file__)
 
@@ -118,7 +118,7 @@ def refactoring(transformer, source, result):
     if result.new is None:
         return result.left, 0
     edits = patch(source, result.new)
-    after = refactor.apply_edits(source.text, 0, len(source.text), edits)
+    after = apply_edits(source.text, 0, len(source.text), edits)
     wanted = ast.dump(ast.fix_missing_locations(transformer().visit(parsed(source.contents))))
     if ast.dump(parsed(after)) != wanted:
         return "the patched source isn't what NodeTransformer gives", len(edits)
