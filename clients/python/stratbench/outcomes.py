@@ -7,7 +7,7 @@ from collections.abc import Iterable, Sequence
 from typing import NamedTuple
 
 from .diff import unified
-from .patch import Edit, apply_edits, lost_comments, patch
+from .patch import Edit, apply_edits, patch_of
 from .patch.tokens import Token
 from .python import Source, position
 from .terms import Term, exchange
@@ -25,10 +25,9 @@ class Rewritten(NamedTuple):
 
 
 def rewritten(source: Source, new: Term) -> Rewritten:
-    """Returns the source with a new tree. Raises what `patch` raises."""
-    edits = patch(source, new)
-    text = apply_edits(source.text, 0, len(source.text), edits)
-    return Rewritten(edits, text, lost_comments(source, edits, text))
+    """Returns the source with a new tree. Raises what `patch_of` raises."""
+    edits, lost = patch_of(source, new)
+    return Rewritten(edits, apply_edits(source.text, 0, len(source.text), edits), lost)
 
 
 def with_comments(source: Source, new: Term, paths: Iterable[Path]) -> Rewritten:

@@ -3,6 +3,7 @@
 import re
 import tempfile
 
+import layouts
 from stratbench import python, refactor
 from stratbench.diff import unified
 from stratbench.patch import Unwritable, apply_edits, patch, patched
@@ -119,7 +120,7 @@ CASES = [
     ("a statement that needs a line", "if a: b; checked(c); d\n", EVERY % "Compound", "if a:\n    b\n    if c:\n        fail()\n    d\n"),
     ("a list that becomes empty", "def f():\n    # why\n    gone()\nclass A:\n    gone()\nfor a in b:\n    c\nelse:\n    gone()\n", "lists(Drop)", "def f():\n    # why\n    pass\nclass A:\n    pass\nfor a in b:\n    c\n"),
     ("a try without its parts", "try:\n    gone()\nexcept A:\n    gone()\nelse:\n    gone()\nfinally:\n    gone()\n", "lists(Drop)", "try:\n    pass\nexcept A:\n    pass\n"),
-    ("new statements on a line", "twice(); a\nif b: twice()\n", "once-each(Twice)", "twice()\ntwice(); a\nif b: twice(); twice()\n"),
+    ("new statements on a line", "twice(); a\nif b: twice()\n", "once-each(Twice)", "twice(); twice(); a\nif b: twice(); twice()\n"),
     ("new statements between lines", "class A:\n\n    def f(self):\n        # soon\n        late()  # late\n", "once-each(Before)", "class A:\n\n    def f(self):\n        early()\n        # soon\n        late()  # late\n"),
     ("tabs", "if a:\n\tif b:\n\t\tchecked(c)\n\t\td\n", EVERY % "Compound", "if a:\n\tif b:\n\t\tif c:\n\t\t\tfail()\n\t\td\n"),
     ("two blanks", "if a:\n  checked(c)\n", EVERY % "Compound", "if a:\n  if c:\n    fail()\n"),
@@ -288,6 +289,7 @@ def diffs(source, new):
 
 
 def tests(top, everything):
+    yield from layouts.tests(top)
     for title, source, result, wanted in cases(top):
         if not isinstance(result, dict):
             yield title, f"refused: {result}"

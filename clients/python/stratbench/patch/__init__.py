@@ -15,11 +15,11 @@ from __future__ import annotations
 
 from ..python import Source, deep, from_term, parse, to_term
 from ..terms import NoTerm, Term
-from .comments import lost_comments
+from .comments import Patch
 from .edits import Cannot, Edit, Unwritable, apply_edits, same_tree
 from .statements import Patcher
 
-__all__ = ["Edit", "Unwritable", "apply_edits", "lost_comments", "patch", "patched"]
+__all__ = ["Edit", "Patch", "Unwritable", "apply_edits", "patch", "patch_of", "patched"]
 
 
 def patch(source: Source, new: Term) -> list[Edit]:
@@ -27,12 +27,17 @@ def patch(source: Source, new: Term) -> list[Edit]:
 
     Raises `NoTerm` where the new tree is none of Python's, and `Unwritable` where no text spells it.
     """
+    return patch_of(source, new).edits
+
+
+def patch_of(source: Source, new: Term) -> Patch:
+    """Returns the same edits, and the comments that aren't in the text after them. Each of the others is there once."""
     with deep():
         patcher = Patcher(source, new)
         if patcher.new.head != "Module":
             raise NoTerm("the tree is no Module")
         if patcher.new is patcher.old:
-            return []
+            return Patch([], [])
         try:
             from_term(patcher.new)
         except NoTerm as error:
@@ -41,10 +46,10 @@ def patch(source: Source, new: Term) -> list[Edit]:
         for plain in (False, True):
             patcher.plain = plain
             try:
-                edits = patcher.edits()
-                text = apply_edits(source.text, 0, len(source.text), edits)
+                found = patcher.patch()
+                text = apply_edits(source.text, 0, len(source.text), found.edits)
                 if same_tree(to_term(parse(text.decode())), patcher.new):
-                    return edits
+                    return found
             except (Cannot, NoTerm):
                 pass
             except SyntaxError as error:

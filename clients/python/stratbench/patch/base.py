@@ -8,28 +8,46 @@ from abc import ABC, abstractmethod
 from bisect import bisect_left, bisect_right
 from collections.abc import Sequence
 from functools import cached_property
-from typing import Callable
+from typing import Callable, NamedTuple
 
 from ..python import CONSTRUCTORS, Source, position
 from ..terms import LIST, Term
-from .edits import DEFINITIONS, Cannot, Edit, field_of, normal, span
+from .comments import Marks
+from .edits import DEFINITIONS, DISPLAYS, Cannot, Edit, apply_edits, field_of, normal, span
+from .former import Former
 from .tokens import Token, Tokens, inner_lines
+
+
+class Place(NamedTuple):
+    """Where a node is: the node around it, before and after, and the path to it from there."""
+
+    old: Term
+    new: Term
+    path: tuple[int, ...] = ()
+
+    def at(self, *steps: int) -> Place:
+        """The place of a node inside."""
+        return self._replace(path=(*self.path, *steps))
 
 
 class Base(ABC):
     """The source with its old tree, and the new tree."""
 
-    def __init__(self, source: Source, new: Term) -> None:
+    def __init__(self, source: Source, new: Term, marks: Marks | None = None) -> None:
         self.source, self.text = source, source.text
+        self.marks = marks or Marks(source.text)
         self.old = source.term
         self.origins: dict[tuple[int, int, object], Term] = {}
         self.homes: dict[int, tuple[Term, int]] = {}
+        self.displays: dict[int, Term] = {}
         waiting = [self.old]
         while waiting:
             it = waiting.pop()
             place = position(it)
             if place is not None and it.head in CONSTRUCTORS:
                 self.origins[(*place, it.head)] = it
+            if it.head in DISPLAYS and it.children[0].children:
+                self.displays[id(it.children[0])] = it
             if it.head == LIST:
                 for at, child in enumerate(it.children):
                     if child.children or child.annotations:
@@ -49,6 +67,11 @@ class Base(ABC):
     def tokens(self) -> Tokens:
         """The tokens of the source, which are read only where something changed."""
         return Tokens(self.text, self.source.lines)
+
+    @cached_property
+    def former(self) -> Former:
+        """What the new nodes were, which is asked only where they aren't old ones themselves."""
+        return Former(self.old, self.new, self._origin)
 
     # The new tree with the old nodes in the places where nothing changed, so that `is` compares them.
     def _shared(self, new: Term, candidate: Term | None) -> Term:
@@ -83,16 +106,32 @@ class Base(ABC):
         place = position(term)
         return None if place is None else self.origins.get((*place, term.head))
 
+    # The statement that a new one was. What is made anew as a whole was none.
+    def _was(self, statement: Term) -> Term | None:
+        return self._origin(statement) or (None if self.plain else self.former.of(statement))
+
+    # Whether an old node, in whose place another comes, is elsewhere in the new tree.
+    def _moved(self, old: Term, new: Term) -> bool:
+        origin = self._origin(new)
+        return origin is not old and (origin is not None or self.former.is_present(old))
+
+    # Old text with edits in it, and with marks in its comments.
+    def _copied(self, first: int, last: int, edits: Sequence[Edit]) -> bytes:
+        comments = self.tokens.comments_between(first, last)
+        if comments:
+            edits = [*edits, *self.marks.edits(comments, sorted(edits, key=lambda it: (it.first, it.last)))]
+        return apply_edits(self.text, first, last, edits)
+
     # What the classes above say of nodes and statements.
 
     @abstractmethod
     def _inside(self, old: Term, new: Term) -> list[Edit]: ...
 
     @abstractmethod
-    def _child(self, owner: Term, path: tuple[int, ...], old: Term, new: Term) -> list[Edit]: ...
+    def _child(self, place: Place, old: Term, new: Term) -> list[Edit]: ...
 
     @abstractmethod
-    def _fields(self, owner: Term, path: tuple[int, ...], old: Term, new: Term) -> list[Edit]: ...
+    def _fields(self, place: Place, old: Term, new: Term) -> list[Edit]: ...
 
     @abstractmethod
     def _rendered(self, new: Sequence[Term], indent: bytes) -> bytes: ...
@@ -143,6 +182,10 @@ class Base(ABC):
     def _indent(self, place: int) -> bytes:
         found = re.compile(rb"[ \t\f]*").match(self.text, self._line_start(place))
         return found.group() if found else b""
+
+    # The indentation of the statement that a place is in.
+    def _frame(self, place: int) -> bytes:
+        return self._indent(self.tokens.logical_line(place))
 
     # The place of the colon that ends the head of a statement.
     def _colon(self, statement: Term) -> int:
@@ -213,18 +256,23 @@ class Base(ABC):
             ends.append(line)
         return ends
 
-    # A text of statements with another indentation. Lines within strings stay.
-    def _indented(self, text: bytes, old: bytes, new: bytes) -> bytes:
+    # A text of statements, or of an expression, with another indentation. Lines within strings stay.
+    def _indented(self, text: bytes, old: bytes, new: bytes, is_expression: bool = False) -> bytes:
         if old == new or (b"\n" not in text and b"\r" not in text):
             return text
         lines = re.split(rb"(?<=\n)|(?<=\r)(?!\n)", text)
-        inner = inner_lines(old + text, bool(old))
+        inner = inner_lines(b"(" + text + b")", False) if is_expression else inner_lines(old + text, bool(old))
         out = [lines[0]]
         for at, line in enumerate(lines[1:], 1):
             if at not in inner and line.strip() and line.startswith(old):
                 line = new + line[len(old) :]
             out.append(line)
         return b"".join(out)
+
+    # The places between the brackets of a literal.
+    def _inside_of(self, display: Term) -> tuple[int, int]:
+        first, last = span(display)
+        return (first, last) if display.head == "Tuple" and not self._is_bracketed_tuple(display) else (first + 1, last - 1)
 
     def _is_bracketed_tuple(self, term: Term) -> bool:
         tokens = self.tokens.between(*span(term))

@@ -7,7 +7,8 @@ from typing import Callable, NamedTuple, Tuple, Union
 
 from ..python import position
 from ..terms import LIST, Term, string
-from .edits import NONE, PASS, Cannot, Edit, aligned, field_of, is_same, span
+from .base import Place
+from .edits import DISPLAYS, NONE, PASS, Cannot, Edit, aligned, field_of, is_same, span
 from .fresh import Fresh
 
 # The text of an item, from the nodes that it is made of.
@@ -100,20 +101,21 @@ class Commas(Fresh):
     # The edits for a list with commas. `inside` are the places between its brackets.
     def _items(
         self,
-        owner: Term,
+        place: Place,
         inside: tuple[int, int],
         old: Sequence[Item],
         new: Sequence[tuple[Term, ...]],
-        text: Texts,
+        text: Texts | None = None,
         trailing: bool = True,
     ) -> list[Edit]:
         if any(one.last > two.first for one, two in zip(old, old[1:])):
             raise Cannot
+        text = text or self._alone(inside)
         keys = {id(key_of(it.parts)): at for at, it in enumerate(old)}
         kept = [keys.get(id(self._origin(key_of(parts)))) for parts in new]
-        for place, at in enumerate(kept):
-            if at is not None and [it.head == "None" for it in new[place]] != [it.head == "None" for it in old[at].parts]:
-                kept[place] = None
+        for other, at in enumerate(kept):
+            if at is not None and [it.head == "None" for it in new[other]] != [it.head == "None" for it in old[at].parts]:
+                kept[other] = None
         edits: list[Edit] = []
         pairs = aligned(kept)
         # what stands for nothing yet takes the place of what goes, in order
@@ -136,8 +138,12 @@ class Commas(Fresh):
         for one, two in pairs:
             for before, after in zip(old[one].parts, new[two]):
                 if not is_same(before, after):
-                    edits += self._child(owner, (), before, after)
+                    edits += self._child(Place(place.old, place.new), before, after)
         return edits
+
+    # The text of an item of one node.
+    def _alone(self, inside: tuple[int, int]) -> Texts:
+        return lambda parts: self._text(parts[0], self._frame(inside[0]))
 
     # The edits that take the items from one to another away.
     def _without(self, inside: tuple[int, int], old: Sequence[Item], first: int, last: int, more: bool, trailing: bool) -> list[Edit]:
@@ -145,7 +151,7 @@ class Commas(Fresh):
             return [Edit(old[first].first, old[last + 1].first, b"")]
         if first > 0:
             begin = old[first - 1].last
-            if trailing and any(begin <= it.first < old[first].first for it in self.tokens.comments):
+            if trailing and self.tokens.comments_between(begin, old[first].first):
                 begin = old[first].first
                 end = self.tokens.after(old[last].last)
                 stop = self.tokens.tokens[end].last if self.tokens.text_at(end) == "," else old[last].last
@@ -155,8 +161,24 @@ class Commas(Fresh):
         comma = self.tokens.text_at(end) == "," and self.tokens.tokens[end].last <= inside[1]
         return [Edit(old[first].first, self.tokens.tokens[end].last if comma else old[last].last, b"")]
 
+    # The edits that make a list, a tuple or a set another of these, with its elements.
+    def _display(self, old: Term, new: Term) -> list[Edit]:
+        before, after = old.children[0].children, new.children[0].children
+        first, last = span(old)
+        inside = self._inside_of(old)
+        if (new.head == "Set" and not after) or (new.head == "Tuple" and len(after) == 1 != len(before)):
+            raise Cannot
+        elements = [self._item(inside, it) for it in before]
+        opens, closes = DISPLAYS[str(new.head)]
+        if new.head == "Tuple" and len(after) == 1 and self.tokens.text_at(self.tokens.after(elements[0].last)) != ",":
+            comma = [Edit(elements[0].last, elements[0].last, b",")]
+        else:
+            comma = []
+        items = self._items(Place(old, new), inside, elements, [(it,) for it in after])
+        return [Edit(first, inside[0], opens), *items, *comma, Edit(inside[1], last, closes)]
+
     # The arguments of a call, where they are others than before in number or kind.
-    def _call(self, owner: Term, path: tuple[int, ...], old: Term, new: Term) -> list[Edit] | None:
+    def _call(self, place: Place, old: Term, new: Term) -> list[Edit] | None:
         function, arguments, keywords = old.children
         if len(new.children) != 3 or new.children[1].head != LIST or new.children[2].head != LIST:
             raise Cannot
@@ -169,11 +191,11 @@ class Commas(Fresh):
         before = [*arguments.children, *keywords.children]
         if any(it.head == "GeneratorExp" and span(it)[1] == last for it in before):
             raise Cannot
-        edits = self._child(owner, (*path, 0), function, new.children[0]) if function is not new.children[0] else []
+        edits = self._child(place.at(0), function, new.children[0]) if function is not new.children[0] else []
         after = [(it,) for it in (*new.children[1].children, *new.children[2].children)]
-        return edits + self._items(new, inside, [self._item(inside, it) for it in before], after, lambda parts: self._text(parts[0]))
+        return edits + self._items(place, inside, [self._item(inside, it) for it in before], after)
 
-    def _bases(self, owner: Term, path: tuple[int, ...], old: Term, new: Term) -> list[Edit]:
+    def _bases(self, place: Place, old: Term, new: Term) -> list[Edit]:
         before = [*field_of(old, "bases").children, *field_of(old, "keywords").children]
         after = [*field_of(new, "bases").children, *field_of(new, "keywords").children]
         if len(before) == len(after) and all(one is two for one, two in zip(before, after)):
@@ -182,17 +204,18 @@ class Commas(Fresh):
             raise Cannot
         at = self.tokens.after(span(old)[0]) + 2
         if self.tokens.text_at(at) != "(":
-            place = self.tokens.tokens[at - 1].last
-            return [Edit(place, place, b"(" + b", ".join(self._text(it).encode() for it in after) + b")")]
+            name = self.tokens.tokens[at - 1]
+            texts = [self._text(it, self._frame(name.first)).encode() for it in after]
+            return [Edit(name.last, name.last, b"(" + b", ".join(texts) + b")")]
         depth, end = 1, at
         while depth:
             end += 1
             depth += {"(": 1, "[": 1, "{": 1, ")": -1, "]": -1, "}": -1}.get(self.tokens.text_at(end), 0)
         inside = (self.tokens.tokens[at].last, self.tokens.tokens[end].first)
         elements = [self._item(inside, it) for it in before]
-        return self._items(new, inside, elements, [(it,) for it in after], lambda parts: self._text(parts[0]))
+        return self._items(place, inside, elements, [(it,) for it in after])
 
-    def _dict(self, owner: Term, path: tuple[int, ...], old: Term, new: Term) -> list[Edit]:
+    def _dict(self, place: Place, old: Term, new: Term) -> list[Edit]:
         first, last = span(old)
         inside = (first + 1, last - 1)
         keys, values = (it.children for it in old.children)
@@ -202,19 +225,19 @@ class Commas(Fresh):
         after = list(zip(new.children[0].children, new.children[1].children))
 
         def text(parts: tuple[Term, ...]) -> str:
-            return self._between("Dict", [Term(LIST, parts[:1]), Term(LIST, parts[1:])], "{", "}")
+            return self._between(Term("Dict", (Term(LIST, parts[:1]), Term(LIST, parts[1:]))), self._frame(first), "{", "}")
 
-        return self._items(new, inside, before, after, text)
+        return self._items(place, inside, before, after, text)
 
     # The text of a node that is made anew, of which only what is between two brackets is wanted.
-    def _between(self, head: str, children: list[Term], opens: str, closes: str) -> str:
-        text = self._fresh(Term(head, tuple(children)))
+    def _between(self, term: Term, indent: bytes, opens: str, closes: str) -> str:
+        text = self._fresh(term, indent)
         return text[text.index(opens) + 1 : text.rindex(closes)]
 
     # The parameters of a function.
-    def _parameters(self, owner: Term, path: tuple[int, ...], old: Term, one: Term, two: Term) -> list[Edit]:
+    def _parameters(self, place: Place, old: Term, one: Term, two: Term) -> list[Edit]:
         if same_shape(one, two):
-            return self._fields(owner, path, one, two)
+            return self._fields(place, one, two)
         tokens = self.tokens
         at = tokens.after(span(old)[0])
         if old.head == "Lambda":
@@ -233,10 +256,11 @@ class Commas(Fresh):
                 end += 1
                 depth += {"(": 1, "[": 1, "{": 1, ")": -1, "]": -1, "}": -1}.get(tokens.text_at(end), 0)
             inside = (tokens.tokens[at].last, tokens.tokens[end].first)
+        indent = self._frame(inside[0])
         before, after = flat_parameters(one), flat_parameters(two)
         alone = any(sign in ("/", "bare") for sign, _, _ in [*before, *after])
         if old.head == "Lambda" or alone:
-            return [Edit(*inside, self._parameter_list(old.head == "Lambda", two))]
+            return [Edit(*inside, self._parameter_list(old.head == "Lambda", two, indent))]
         elements = []
         for sign, name, default in before:
             item = self._item(inside, *([name] if default is None else [name, default]))
@@ -250,19 +274,20 @@ class Commas(Fresh):
 
         def text(parts: tuple[Term, ...]) -> str:
             equals = " = " if parts[0].children[1].head != "None" else "="
-            return marks.get(id(parts[0]), "") + self._text(parts[0]) + (equals + self._text(parts[1]) if len(parts) > 1 else "")
+            default = equals + self._text(parts[1], indent) if len(parts) > 1 else ""
+            return marks.get(id(parts[0]), "") + self._text(parts[0], indent) + default
 
         # a parameter that changes its kind is no longer itself
         for parts, (sign, name, _) in zip(news, after):
             origin = self._origin(name)
             if origin is not None and marks.get(id(origin)) != sign:
-                return [Edit(*inside, self._parameter_list(False, two))]
-        return self._items(owner, inside, elements, news, text)
+                return [Edit(*inside, self._parameter_list(False, two, indent))]
+        return self._items(place, inside, elements, news, text)
 
-    def _parameter_list(self, is_lambda: bool, new: Term) -> bytes:
+    def _parameter_list(self, is_lambda: bool, new: Term, indent: bytes) -> bytes:
         if is_lambda:
-            text = self._fresh(Term("Lambda", (new, Term("Constant", (Term("Ellipsis"), NONE)))))
+            text = self._fresh(Term("Lambda", (new, Term("Constant", (Term("Ellipsis"), NONE)))), indent)
             return text[len("lambda") : text.rindex(":")].encode()
         empty = Term(LIST)
-        text = self._fresh(Term("FunctionDef", (string("f"), new, Term(LIST, (PASS,)), empty, NONE, NONE, empty)))
-        return text[text.index("(") + 1 : text.rindex("):")].encode()
+        made = self._fresh_statement(Term("FunctionDef", (string("f"), new, Term(LIST, (PASS,)), empty, NONE, NONE, empty)), indent)
+        return made[made.index(b"(") + 1 : made.rindex(b"):")]

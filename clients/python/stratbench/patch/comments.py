@@ -1,36 +1,88 @@
-"""The comments of a source that a patch loses."""
+"""The owners of comments: each is in the new text once, or is lost.
+
+Where old text is copied, each comment in it gets a mark that says which one it is. So one that stays where it was, or was copied before,
+is taken out of later copies, and one that is nowhere is known to be lost.
+"""
 
 from __future__ import annotations
 
+import re
 from bisect import bisect_right
-from collections import Counter
 from collections.abc import Sequence
+from typing import NamedTuple
 
-from ..python import Lines, Source
 from .edits import Edit
-from .tokens import Token, Tokens
+from .tokens import Token
 
 
-def lost_comments(source: Source, edits: Sequence[Edit], after: bytes) -> list[Token]:
-    """Returns the comments that aren't in the text after the edits, which are in order."""
-    if not any(b"#" in source.text[it.first : it.last] for it in edits):
-        return []
+class Patch(NamedTuple):
+    """The edits of a source, in order, and the comments that aren't in the text after them."""
+
+    edits: list[Edit]
+    lost: list[Token]
+
+
+class Marks:
+    """Marks for the comments of a text, which are known by their places in it. `offset` is added to these, for a text that is part of
+    another."""
+
+    def __init__(self, text: bytes, offset: int = 0, sign: bytes = b"\1") -> None:
+        while sign in text:
+            sign += b"\1"
+        self.sign, self.offset = sign, offset
+        self._mark = re.compile(rb"#%s(\d+)%s" % (sign, sign))
+
+    def edits(self, comments: Sequence[Token], edits: Sequence[Edit]) -> list[Edit]:
+        """Returns the edits that mark these comments where they stay."""
+        return [self._put(it) for it in _staying(comments, edits)]
+
+    def _put(self, comment: Token) -> Edit:
+        place = comment.first + 1
+        return Edit(place, place, b"%s%d%s" % (self.sign, comment.first + self.offset, self.sign))
+
+    def resolved(self, edits: Sequence[Edit], comments: Sequence[Token]) -> Patch:
+        """Returns the edits without marks and with each comment once, and which of the comments are lost."""
+        there = {it.first for it in _staying(comments, edits)}
+        found = [it._replace(text=self._once(it.text, there)) if self.sign in it.text else it for it in edits]
+        return Patch(found, [it for it in comments if it.first not in there])
+
+    # The text without marks, and without the comments that are there already.
+    def _once(self, text: bytes, there: set[int]) -> bytes:
+        out: list[bytes] = []
+        end = 0
+        for found in self._mark.finditer(text):
+            out.append(text[end : found.start()])
+            end = found.end()
+            if int(found[1]) not in there:
+                there.add(int(found[1]))
+                out.append(b"#")
+                continue
+            out, end = _without(b"".join(out), text, end)
+        return b"".join([*out, text[end:]])
+
+
+# The comments that are in none of the edits, which are in order.
+def _staying(comments: Sequence[Token], edits: Sequence[Edit]) -> list[Token]:
     firsts = [it.first for it in edits]
-    kept: Counter[str] = Counter()
-    gone: list[Token] = []
-    for comment in Tokens(source.text, source.lines).comments:
-        at = bisect_right(firsts, comment.first) - 1
-        if at >= 0 and comment.first < edits[at].last:
-            gone.append(comment)
-        else:
-            kept[comment.text] += 1
-    if not gone:
-        return []
-    moved = Counter(it.text for it in Tokens(after, Lines(after)).comments) - kept
-    lost: list[Token] = []
-    for comment in gone:
-        if moved[comment.text]:
-            moved[comment.text] -= 1
-        else:
-            lost.append(comment)
-    return lost
+    found: list[Token] = []
+    for it in comments:
+        at = bisect_right(firsts, it.first) - 1
+        if at < 0 or it.first >= edits[at].last:
+            found.append(it)
+    return found
+
+
+# The text before a comment that goes, and where the text after it begins. Alone in its line, it goes with the line.
+def _without(before: bytes, text: bytes, at: int) -> tuple[list[bytes], int]:
+    ends = re.compile(rb"[^\r\n]*").match(text, at)
+    end = ends.end() if ends else at
+    rest = before.rstrip(b" \t\f")
+    if rest and not rest.endswith((b"\n", b"\r")):
+        return [rest], end
+    after = re.compile(rb"\r?\n|\r").match(text, end)
+    if after is None:
+        return [rest.rstrip(b"\r\n")], end
+    if rest:
+        return [rest], after.end()
+    blanks = re.compile(rb"[ \t\f]*").match(text, after.end())
+    return [before], blanks.end() if blanks else after.end()

@@ -19,6 +19,8 @@ OPERATORS: Final = {
     "UAdd": "+", "USub": "-", "Eq": "==", "NotEq": "!=", "Lt": "<", "LtE": "<=", "Gt": ">", "GtE": ">=", "Is": "is",
     "IsNot": "is not", "In": "in", "NotIn": "not in",
 }  # fmt: skip
+# Where the operators of an operation are.
+OPERATIONS: Final = {"BinOp": 1, "BoolOp": 0, "UnaryOp": 0, "Compare": 1}
 # Statements with blocks, and the names of the fields that are blocks.
 BLOCKS: Final = {
     "FunctionDef": ("body",), "AsyncFunctionDef": ("body",), "ClassDef": ("body",), "If": ("body", "orelse"),
@@ -31,6 +33,10 @@ IMPORTS: Final = ("Import", "ImportFrom")
 STATEMENTS: Final = frozenset(it.name for it in CONSTRUCTORS.values() if it.sort == "stmt")
 EXPRESSIONS: Final = frozenset(it.name for it in CONSTRUCTORS.values() if it.sort == "expr")
 PATTERNS: Final = frozenset(it.name for it in CONSTRUCTORS.values() if it.sort == "pattern")
+# Literals that are elements in brackets.
+DISPLAYS: Final = {"List": (b"[", b"]"), "Tuple": (b"(", b")"), "Set": (b"{", b"}")}
+# Expressions that go on as far as they can.
+OPEN: Final = ("Lambda", "IfExp", "NamedExpr", "Yield", "YieldFrom")
 PLACES: Final = {it.name: {field.name: at for at, field in enumerate(it.fields)} for it in CONSTRUCTORS.values()}
 # Lists with commas between their elements, and the fewest elements with which they stay of this form.
 COMMAS: Final = {
@@ -141,6 +147,8 @@ def aligned(kept: Sequence[Union[int, None]]) -> list[tuple[int, int]]:
         if old is None:
             continue
         place = bisect_left(tails, old)
+        if place < len(tails) and tails[place] == old:
+            continue
         if place < len(tails):
             tails[place], ends[place] = old, at
         else:

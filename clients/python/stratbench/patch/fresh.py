@@ -4,12 +4,13 @@ from __future__ import annotations
 
 import ast
 import re
+from abc import abstractmethod
 from typing import Final
 
 from ..python import CONSTRUCTORS, parse, unparse
 from ..terms import LIST, NoTerm, Term, string
 from .base import Base
-from .edits import BLOCKS, EXPRESSIONS, LOAD, STATEMENTS, Cannot, apply_edits, span
+from .edits import BLOCKS, DISPLAYS, EXPRESSIONS, LOAD, STATEMENTS, Cannot, Edit, span
 from .markers import Piece, filled, marker_of, unparsed
 
 
@@ -19,20 +20,21 @@ _STRINGS: Final = re.compile(r"""('''|\"\"\"|'|")(?:\\.|(?!\1).)*\1""", re.DOTAL
 class Fresh(Base):
     """How nodes are written that weren't there before."""
 
-    # The text of a node, its own where it is an old one.
-    def _text(self, term: Term) -> str:
-        known = self._piece_text(term)
-        return self._fresh(term) if known is None else known
+    # The text of a node, its own where it is an old one, in a statement of an indentation.
+    def _text(self, term: Term, indent: bytes) -> str:
+        known = self._piece_text(term, indent)
+        return self._fresh(term, indent) if known is None else known
 
-    def _piece_text(self, term: Term) -> str | None:
-        origin = self._origin(term)
-        if origin is None or self.plain:
+    def _piece_text(self, term: Term, indent: bytes) -> str | None:
+        origin = None if self.plain else self._origin(term)
+        if origin is None:
             return None
         try:
             first, last = span(origin)
-            text = apply_edits(self.text, first, last, [] if origin is term else self._inside(origin, term)).decode()
+            own = self._copied(first, last, [] if origin is term else self._inside(origin, term))
         except Cannot:
             return None
+        text = self._indented(own, self._frame(first), indent, True).decode()
         if term.head == "Tuple" and not self._is_bracketed_tuple(origin) and not any(it.head == "Slice" for it in term.children[0].children):
             return f"({text})"
         if term.head in EXPRESSIONS and ("\n" in text or "\r" in text) and term.head not in ("Starred", "Slice"):
@@ -43,19 +45,41 @@ class Fresh(Base):
         return text
 
     # The text of a node that is made anew, with the texts of old ones in it.
-    def _fresh(self, term: Term, old: Term | None = None) -> str:
+    def _fresh(self, term: Term, indent: bytes, old: Term | None = None) -> str:
         if term.head in STATEMENTS:
             return self._fresh_statement(term, b"").decode()
         if old is not None:
-            known = self._piece_text(term) if self._origin(term) is not old else None
+            known = self._piece_text(term, indent) if self._origin(term) is not old else None
             if known is not None:
                 return known
+        display = None if self.plain else self._display_text(term, indent)
+        if display is not None:
+            return display
         pieces: list[Piece] = []
-        made = self._with_pieces(term, pieces, root=True)
+        made = self._with_pieces(term, pieces, indent, root=True)
         text = filled(self._fitting(unparsed(made)), pieces)
         if term.head in ("JoinedStr", "Constant") and old is not None:
             return self._requoted(text, old)
         return text
+
+    # The text of a list, a tuple or a set of which elements are those of an old one that is gone: that one's, with other brackets.
+    def _display_text(self, term: Term, indent: bytes) -> str | None:
+        if term.head not in DISPLAYS:
+            return None
+        elements = (self._origin(it) for it in term.children[0].children)
+        home = next((self.homes.get(id(it)) for it in elements if it is not None), None)
+        old = self.displays.get(id(home[0])) if home else None
+        if old is None or self.former.is_present(old):
+            return None
+        first, last = span(old)
+        try:
+            text = self._copied(first, last, self._display(old, term))
+        except Cannot:
+            return None
+        return self._indented(text, self._frame(first), indent, True).decode()
+
+    @abstractmethod
+    def _display(self, old: Term, new: Term) -> list[Edit]: ...
 
     # A new text with escapes in its strings for what the encoding of the file doesn't have.
     def _fitting(self, text: str) -> str:
@@ -64,40 +88,36 @@ class Fresh(Base):
             return text
         return _STRINGS.sub(lambda it: it.group().encode(encoding, "backslashreplace").decode(encoding), text)
 
-    # A string in the quotes of the first one that was in its place.
+    # A string in the quotes of the first one that was in its place, and as raw as that.
     def _requoted(self, text: str, old: Term) -> str:
         tokens = self.tokens.between(*span(old))
         first = next((it.text for it in tokens if it.text[-1:] in ("'", '"')), "")
         found = re.match(r"""([A-Za-z]*)('+|"+)""", first)
-        mine = re.fullmatch(r"""(f?)('|")(.*)\2""", text, re.DOTALL)
+        mine = re.fullmatch(r"""([fb]?)('|")(.*)\2""", text, re.DOTALL)
         if not found or not mine:
             return text
-        quotes = found.group(2) if len(found.group(2)) in (1, 3) else found.group(2)[0]
-        wanted, body = ast.dump(parse(text)), mine.group(3)
-        bodies = [body.replace("\\n", "\n"), body] if len(quotes) == 3 else [body]
-        if "r" in found.group(1).lower():
-            bodies += [it.replace("\\\\", "\\") for it in bodies]
-        for prefix in (found.group(1), mine.group(1)):
-            for it in bodies:
-                other = f"{prefix}{quotes}{it}{quotes}"
-                try:
-                    if ast.dump(parse(other)) == wanted:
-                        return other
-                except SyntaxError:
-                    pass
+        quotes = found[2] if len(found[2]) in (1, 3) else found[2][0]
+        for it in _spellings(found[1], quotes, mine[1], mine[3]):
+            try:
+                if ast.dump(parse(it)) == ast.dump(parse(text)):
+                    return it
+            except SyntaxError:
+                pass
         return text
 
     # The node with markers in the places of the nodes whose text is known.
-    def _with_pieces(self, term: Term, pieces: list[Piece], root: bool = False) -> Term:
+    def _with_pieces(self, term: Term, pieces: list[Piece], indent: bytes, root: bool = False) -> Term:
         if not root and term.head in CONSTRUCTORS:
-            text = self._piece_text(term)
+            text = self._piece_text(term, indent)
+            if text is None and not self.plain:
+                text = self._display_text(term, indent)
             if text is not None:
                 shown, marker = marker_of(term, len(pieces))
                 pieces.append(Piece(shown, text, str(term.head)))
                 return marker
         if not term.children or term.head == "JoinedStr":
             return term
-        return Term(term.head, tuple([self._with_pieces(it, pieces) for it in term.children]))
+        return Term(term.head, tuple([self._with_pieces(it, pieces, indent) for it in term.children]))
 
     # A statement made anew, without the indentation of its first line.
     def _fresh_statement(self, term: Term, indent: bytes) -> bytes:
@@ -105,14 +125,14 @@ class Fresh(Base):
             return self._indented(self._fitting(unparse(term)).strip("\n").encode(), b"", indent)
         pieces: list[Piece] = []
         blocks: list[Term] = []
-        stub = self._stub(term, pieces, blocks)
+        stub = self._stub(term, pieces, blocks, indent)
         if term.head == "Expr" and term.children[0].head == "Constant":
             text = unparse(Term("Module", (Term(LIST, (stub,)), Term(LIST))))
         else:
             text = unparsed(stub)
         text = self._fitting(text).strip("\n")
         if not blocks:
-            return self._indented(filled(text, pieces).encode(), b"", indent)
+            return filled(self._indented(text.encode(), b"", indent).decode(), pieces).encode()
         lines: list[bytes] = []
         for line in text.split("\n"):
             found = re.fullmatch(r"( *)_block_(\d+)_", line)
@@ -125,7 +145,7 @@ class Fresh(Base):
         return self.newline.join(lines)[len(indent) :]
 
     # A statement with markers in the places of its blocks and of the nodes whose text is known.
-    def _stub(self, term: Term, pieces: list[Piece], blocks: list[Term]) -> Term:
+    def _stub(self, term: Term, pieces: list[Piece], blocks: list[Term], indent: bytes) -> Term:
         head = str(term.head)
         if head not in CONSTRUCTORS or len(CONSTRUCTORS[head].fields) != len(term.children):
             raise NoTerm(f"no statement: {term!r:.100}")
@@ -134,18 +154,32 @@ class Fresh(Base):
             if head in BLOCKS and field.name in BLOCKS[head] and child.head == LIST and child.children:
                 inner = child.children[0]
                 if field.name == "orelse" and head == "If" and len(child.children) == 1 and inner.head == "If" and self._is_elif(inner):
-                    children.append(Term(LIST, (self._stub(inner, pieces, blocks),)))
+                    children.append(Term(LIST, (self._stub(inner, pieces, blocks, indent),)))
                     continue
                 name = Term("Name", (string(f"_block_{len(blocks)}_"), LOAD))
                 blocks.append(child)
                 children.append(Term(LIST, (Term("Expr", (name,)),)))
             elif head in BLOCKS and field.name in ("handlers", "cases"):
-                children.append(Term(LIST, tuple(self._stub(it, pieces, blocks) for it in child.children)))
+                deeper = indent + self.tokens.unit if field.name == "cases" else indent
+                children.append(Term(LIST, tuple(self._stub(it, pieces, blocks, deeper) for it in child.children)))
             else:
-                children.append(self._with_pieces(child, pieces))
+                children.append(self._with_pieces(child, pieces, indent))
         return Term(head, tuple(children))
 
     # Whether an `If` in the `else` of another is written `elif`: it was, or is new.
     def _is_elif(self, term: Term) -> bool:
         origin = self._origin(term)
         return origin is None or self.text[span(origin)[0] :].startswith(b"elif")
+
+
+# Texts with a prefix and quotes, which may spell a string, from that with a prefix of its own: like the old one first.
+def _spellings(prefix: str, quotes: str, own: str, body: str) -> list[str]:
+    bodies = [body.replace("\\n", "\n"), body] if len(quotes) == 3 else [body]
+    plain = "".join(it for it in prefix if it.lower() not in "rfb")
+    raw = "".join(it for it in prefix if it.lower() == "r")
+    found: list[str] = []
+    if raw:
+        unescaped = [re.sub(r"\\([\\'\"])", r"\1", it) for it in bodies]
+        like = prefix if own in prefix.lower() and (own or prefix == raw) else raw + own
+        found += [f"{like}{quotes}{it}{quotes}" for it in unescaped]
+    return [*found, *(f"{it}{quotes}{other}{quotes}" for it in (prefix, plain + own, own) for other in bodies)]

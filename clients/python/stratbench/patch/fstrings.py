@@ -160,7 +160,7 @@ class Joined(Commas):
 
     # What the class above makes of an expression in a source of its own.
     @abstractmethod
-    def _expression(self, source: Source, new: Term) -> list[Edit]: ...
+    def _expression(self, source: Source, new: Term, offset: int) -> list[Edit]: ...
 
     # The edits that make an f-string another.
     def _joined(self, old: Term, new: Term) -> list[Edit]:
@@ -263,7 +263,7 @@ class Joined(Commas):
             [statement] = source.term.children[0].children
             if not same_tree(statement.children[0], value):
                 raise Cannot
-            changed = [] if made_anew else self._expression(source, put(source.term, [0, 0, 0], _placed(new_value, statement.children[0])))
+            changed = [] if made_anew else self._expression(source, put(source.term, [0, 0, 0], _placed(new_value, statement.children[0])), first - 1)
             if field.quote not in text and any(field.quote in it.text for it in changed):
                 raise Cannot
             if not changed or changed[0].first < 1 or changed[-1].last > 1 + len(text):

@@ -6,9 +6,9 @@ import re
 from collections.abc import Sequence
 from typing import NamedTuple
 
-from ..python import unparse
+from ..python import parse, to_term, unparse
 from ..terms import LIST, Term, string
-from .edits import EXPRESSIONS, LOAD, NONE, PASS, PATTERNS, STATEMENTS, Cannot
+from .edits import EXPRESSIONS, LOAD, NONE, PASS, PATTERNS, STATEMENTS, Cannot, same_tree
 
 
 class Piece(NamedTuple):
@@ -117,11 +117,37 @@ def plain(term: Term) -> Term:
     return Term(term.head, tuple([plain(it) for it in term.children]))
 
 
-# How many pairs of brackets are around a text in that of a node.
-def brackets(term: Term, shown: str) -> int:
+# The owner with few others in the list that the path leads through: more say nothing of brackets.
+def windowed(owner: Term, path: Sequence[int]) -> tuple[Term, tuple[int, ...]]:
+    field, *rest = path
+    if owner.head not in EXPRESSIONS or owner.children[field].head != LIST or not rest:
+        return owner, tuple(path)
+    first = max(rest[0] - 1, 0)
+    children = list(owner.children)
+    for it in {"Dict": (0, 1), "Compare": (1, 2)}.get(str(owner.head), (field,)):
+        children[it] = Term(LIST, children[it].children[first : first + 3])
+    if owner.head == "Call":
+        children[3 - field] = Term(LIST, children[3 - field].children[:1])
+    return Term(owner.head, tuple(children)), (field, rest[0] - first, *rest[1:])
+
+
+# How many pairs of brackets are around a text in that of a node. One that the parse does without doesn't count, but for what goes on as
+# far as it can.
+def brackets(term: Term, shown: str, goes_on: bool = False) -> int:
     text = unparse(term)
     first = text.find(shown)
     last, count = first + len(shown), 0
     while first > 0 and text[first - 1] == "(" and text[last : last + 1] == ")":
         first, last, count = first - 1, last + 1, count + 1
+    if count and not (goes_on and term.head in EXPRESSIONS) and _spells(text[:first] + text[first + 1 : last - 1] + text[last:], term):
+        count -= 1
     return count
+
+
+# Whether a text spells a statement or an expression.
+def _spells(text: str, term: Term) -> bool:
+    try:
+        [found] = to_term(parse(text)).children[0].children
+    except (SyntaxError, ValueError):
+        return False
+    return same_tree(found if term.head in STATEMENTS else found.children[0], term)

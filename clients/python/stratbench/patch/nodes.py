@@ -7,12 +7,14 @@ from abc import abstractmethod
 
 from ..python import CONSTRUCTORS, position
 from ..terms import LIST, Term, string
+from .base import Place
 from .commas import same_shape
 from .edits import (
-    BLOCKS, COMMAS, DEFINITIONS, EXPRESSIONS, LOAD, NONE, OPERATORS, PATTERNS, Cannot, Edit, field_of, is_same, operands, span,
+    BLOCKS, COMMAS, DEFINITIONS, DISPLAYS, EXPRESSIONS, LOAD, NONE, OPEN, OPERATIONS, OPERATORS, PATTERNS, Cannot, Edit, field_of,
+    is_same, operands, span,
 )  # fmt: skip
 from .fstrings import Joined
-from .markers import brackets, hollow, marker_of
+from .markers import brackets, hollow, marker_of, windowed
 
 
 class Nodes(Joined):
@@ -34,18 +36,22 @@ class Nodes(Joined):
         if old is new:
             return []
         first, last = span(old)
-        if old.head == new.head and not self.plain:
-            found = self._tried(lambda: self._inside(old, new))
+        if not self.plain and not self._moved(old, new):
+            found = None
+            if old.head == new.head:
+                found = self._tried(lambda: self._inside(old, new))
+            elif old.head in DISPLAYS and new.head in DISPLAYS:
+                found = self._tried(lambda: self._display(old, new))
             if found is not None:
                 return found
-        return [Edit(first, last, self._fresh(new, old).encode())]
+        return [Edit(first, last, self._fresh(new, self._frame(first), old).encode())]
 
     # The edits within a node whose constructor stays.
     def _inside(self, old: Term, new: Term) -> list[Edit]:
         if old.head == "JoinedStr":
             return self._joined(old, new)
-        edits = self._fields(new, (), old, new)
-        at = {"BinOp": 1, "BoolOp": 0, "UnaryOp": 0, "Compare": 1}.get(str(old.head))
+        edits = self._fields(Place(old, new), old, new)
+        at = OPERATIONS.get(str(old.head))
         if at is not None and old.children[at] is not new.children[at]:
             edits = self._rebracketed(old, new, edits)
         return edits
@@ -53,35 +59,35 @@ class Nodes(Joined):
     # An operator that changes may bind its operands otherwise, so these may need brackets now.
     def _rebracketed(self, old: Term, new: Term, edits: list[Edit]) -> list[Edit]:
         for path, one, two in operands(old, new):
-            span = position(one)
-            if one is two and span and self._needs_brackets(new, path, two, one):
-                edits = [*edits, Edit(span[0], span[0], b"("), Edit(span[1], span[1], b")")]
+            found = position(one)
+            if one is two and found and self._needs_brackets(Place(old, new, path), two, one):
+                edits = [*edits, Edit(found[0], found[0], b"("), Edit(found[1], found[1], b")")]
         return edits
 
-    def _fields(self, owner: Term, path: tuple[int, ...], old: Term, new: Term) -> list[Edit]:
+    def _fields(self, place: Place, old: Term, new: Term) -> list[Edit]:
         head = str(old.head)
         fields = CONSTRUCTORS[head].fields
         if old.head != new.head or len(old.children) != len(fields) or len(new.children) != len(fields):
             raise Cannot
         edits: list[Edit] = []
         if head == "Call":
-            joint = self._call(owner, path, old, new)
+            joint = self._call(place, old, new)
             if joint is not None:
                 return joint
         if head == "ClassDef":
-            edits += self._bases(owner, path, old, new)
+            edits += self._bases(place, old, new)
         if head == "Dict" and len(old.children[0].children) != len(new.children[0].children):
-            return self._dict(owner, path, old, new)
+            return self._dict(place, old, new)
         if head == "arguments" and not same_shape(old, new):
             raise Cannot
         for at, field in enumerate(fields):
             one, two = old.children[at], new.children[at]
             if is_same(one, two) or field.sort == "expr_context" or (head == "ClassDef" and field.name in ("bases", "keywords")):
                 continue
-            edits += self._field(owner, (*path, at), old, new, field.name, one, two)
+            edits += self._field(place.at(at), old, new, field.name, one, two)
         return edits
 
-    def _field(self, owner: Term, path: tuple[int, ...], old: Term, new: Term, name: str, one: Term, two: Term) -> list[Edit]:
+    def _field(self, place: Place, old: Term, new: Term, name: str, one: Term, two: Term) -> list[Edit]:
         head = str(old.head)
         if head in BLOCKS and name in ("body", "orelse", "finalbody"):
             return self._clause(old, new, name)
@@ -90,9 +96,9 @@ class Nodes(Joined):
         if name == "decorator_list":
             return self._decorators(old, new)
         if (head, name) in (("FunctionDef", "args"), ("AsyncFunctionDef", "args"), ("Lambda", "args")):
-            return self._parameters(owner, path, old, one, two)
+            return self._parameters(place, old, one, two)
         if name == "returns" and head in DEFINITIONS:
-            return self._returns(owner, path, old, one, two)
+            return self._returns(place, old, one, two)
         word = self._word(old, new, name, one, two)
         if word is not None:
             return word
@@ -101,54 +107,60 @@ class Nodes(Joined):
                 edits: list[Edit] = []
                 for at, (it, other) in enumerate(zip(one.children, two.children)):
                     if not is_same(it, other):
-                        edits += self._child(owner, (*path, at), it, other)
+                        edits += self._child(place.at(at), it, other)
                 return edits
             least = COMMAS.get((head, name))
             if least is None or len(two.children) < least or not one.children:
                 if (head, name) != ("List", "elts"):
                     raise Cannot
-            inside = span(old)
-            if head == "List" or (head == "Tuple" and self._is_bracketed_tuple(old)):
-                inside = (inside[0] + 1, inside[1] - 1)
+            inside = self._inside_of(old) if head in DISPLAYS else span(old)
             elements = [self._item(inside, it) for it in one.children]
-            return self._items(owner, inside, elements, [(it,) for it in two.children], lambda parts: self._text(parts[0]), (head, name) != ("Delete", "targets"))
-        return self._child(owner, path, one, two)
+            return self._items(place, inside, elements, [(it,) for it in two.children], trailing=head != "Delete")
+        return self._child(place, one, two)
 
     # The edits for a child that isn't a list.
-    def _child(self, owner: Term, path: tuple[int, ...], old: Term, new: Term) -> list[Edit]:
+    def _child(self, place: Place, old: Term, new: Term) -> list[Edit]:
         if position(old) is None:
             if old.head == new.head and old.head in ("arguments", "comprehension", "withitem"):
-                return self._fields(owner, path, old, new)
+                return self._fields(place, old, new)
             raise Cannot
         if new.head not in CONSTRUCTORS or new.head == "None":
             raise Cannot
         first, last = span(old)
         edits = self._node(old, new)
-        if new.head in EXPRESSIONS or new.head in PATTERNS:
-            whole = len(edits) == 1 and (edits[0].first, edits[0].last) == (first, last)
-            if (whole or old.head in ("BinOp", "BoolOp", "UnaryOp", "Compare")) and self._needs_brackets(owner, path, new, old):
-                if whole and new.head == "Tuple" and edits[0].text.startswith(b"("):
-                    return edits
-                return [Edit(first, first, b"("), *edits, Edit(last, last, b")")] if not whole else [
-                    Edit(first, last, b"(" + edits[0].text + b")")
-                ]
+        if new.head not in EXPRESSIONS and new.head not in PATTERNS:
+            return edits
+        whole = len(edits) == 1 and (edits[0].first, edits[0].last) == (first, last)
+        if not whole:
+            if old.head in OPERATIONS and self._needs_brackets(place, new, old):
+                return [Edit(first, first, b"("), *edits, Edit(last, last, b")")]
+        elif self._has_calls_brackets(place, old) and new.head != "GeneratorExp":
+            return [Edit(first, last, b"(" + edits[0].text + b")")]
+        elif not (new.head == "Tuple" and edits[0].text.startswith(b"(")) and self._needs_brackets(place, new, old):
+            return [Edit(first, last, b"(" + edits[0].text + b")")]
         return edits
 
-    # Whether a node needs brackets in its place under the owner, which the source doesn't have there.
-    def _needs_brackets(self, owner: Term, path: tuple[int, ...], new: Term, old: Term) -> bool:
-        if not path or (new.head not in EXPRESSIONS and new.head not in PATTERNS):
+    # Whether the brackets of a generator are those of the call of which it is the only argument.
+    def _has_calls_brackets(self, place: Place, old: Term) -> bool:
+        return old.head == "GeneratorExp" and place.old.head == "Call" and span(place.old)[1] == span(old)[1]
+
+    # Whether a node needs brackets in its place, which the source doesn't have there. What binds as the old node did has those it needs.
+    def _needs_brackets(self, place: Place, new: Term, old: Term) -> bool:
+        if not place.path or (new.head not in EXPRESSIONS and new.head not in PATTERNS):
             return False
-        if owner.head == "Attribute" and new.head == "Constant" and not isinstance(new.children[0].head, bytes):
-            first, last = span(old)
-            return self.tokens.text_at(self.tokens.before(first)) != "(" or self.tokens.text_at(self.tokens.after(last)) != ")"
-        shown, marker = marker_of(new, 0)
-        atom = Term("Name", (string("_h_"), LOAD)) if new.head in EXPRESSIONS else Term("MatchAs", (NONE, string("_h_")))
-        wanted = brackets(hollow(owner, path, marker), shown)
-        least = brackets(hollow(owner, path, atom), "_h_")
         first, last = span(old)
         before, after, there = self.tokens.before(first), self.tokens.after(last), 0
         while self.tokens.text_at(before) == "(" and self.tokens.text_at(after) == ")":
             before, after, there = before - 1, after + 1, there + 1
+        if place.new.head == "Attribute" and new.head == "Constant" and not isinstance(new.children[0].head, bytes):
+            return not there
+        if _binding(old) == _binding(new) and _binding(place.old) == _binding(place.new):
+            return False
+        shown, marker = marker_of(new, 0)
+        atom = Term("Name", (string("_h_"), LOAD)) if new.head in EXPRESSIONS else Term("MatchAs", (NONE, string("_h_")))
+        owner, path = windowed(place.new, place.path)
+        wanted = brackets(hollow(owner, path, marker), shown, new.head in OPEN)
+        least = brackets(hollow(owner, path, atom), "_h_")
         return wanted > least and there <= least
 
     # Names and operators, which are one token or a few.
@@ -236,19 +248,25 @@ class Nodes(Joined):
     def _annotation(self, old: Term, new: Term, one: Term, two: Term) -> list[Edit]:
         token = self.tokens.tokens[self.tokens.after(span(old)[0])]
         if one.head == "None":
-            return [Edit(token.last, token.last, b": " + self._text(two).encode())]
+            return [Edit(token.last, token.last, b": " + self._text(two, self._frame(token.first)).encode())]
         if two.head == "None":
             return [Edit(token.last, self._around((token.last, span(old)[1]), one)[1], b"")]
-        return self._child(new, (1,), one, two)
+        return self._child(Place(old, new, (1,)), one, two)
 
-    def _returns(self, owner: Term, path: tuple[int, ...], old: Term, one: Term, two: Term) -> list[Edit]:
+    def _returns(self, place: Place, old: Term, one: Term, two: Term) -> list[Edit]:
         colon = self._colon(old)
         if one.head == "None":
-            return [Edit(colon, colon, b" -> " + self._text(two).encode())]
+            return [Edit(colon, colon, b" -> " + self._text(two, self._frame(colon)).encode())]
         if two.head == "None":
             arrow = self.tokens.before(span(one)[0])
             while self.tokens.tokens[arrow].text != "->":
                 arrow -= 1
             end = self.tokens.tokens[arrow - 1].last
             return [Edit(end, colon, b"")]
-        return self._child(owner, path, one, two)
+        return self._child(place, one, two)
+
+
+# What says how strongly a node binds: its constructor, and its operator.
+def _binding(term: Term) -> tuple[object, object]:
+    at = OPERATIONS.get(str(term.head))
+    return term.head, None if at is None else term.children[at].head

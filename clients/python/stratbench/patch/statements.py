@@ -3,12 +3,15 @@
 from __future__ import annotations
 
 import tokenize
+from bisect import bisect_right
 from collections.abc import Sequence
 from functools import cached_property
 
 from ..python import Source
 from ..terms import Term
-from .edits import BLOCKS, DEFINITIONS, IMPORTS, PLACES, Cannot, Edit, aligned, apply_edits, field_of, span
+from .base import Place
+from .comments import Marks, Patch
+from .edits import BLOCKS, DEFINITIONS, IMPORTS, PLACES, Cannot, Edit, aligned, field_of, span
 from .nodes import Nodes
 
 
@@ -16,19 +19,26 @@ class Patcher(Nodes):
     """The edits that make a source spell a new tree."""
 
     def edits(self) -> list[Edit]:
-        """Returns the edits, in order."""
+        """Returns the edits, in order, with marks in the comments of what is copied."""
         if self.old is self.new:
             return []
         self.carried, self.carrying = set(), set()
-        self._block(self.old, self.new, "body", b"")
-        # once more, now that the comments that go elsewhere are known
-        self.carried = self.carrying
-        return sorted(self._block(self.old, self.new, "body", b""), key=lambda it: (it.first, it.last))
+        found = self._block(self.old, self.new, "body", b"")
+        if self.carrying:
+            # once more, now that the comments that go elsewhere are known
+            self.carried = self.carrying
+            found = self._block(self.old, self.new, "body", b"")
+        return sorted(found, key=lambda it: (it.first, it.last))
 
-    def _expression(self, source: Source, new: Term) -> list[Edit]:
+    def patch(self) -> Patch:
+        """Returns the edits, and the comments that are lost."""
+        edits = self.edits()
+        return self.marks.resolved(edits, self.tokens.comments) if edits else Patch([], [])
+
+    def _expression(self, source: Source, new: Term, offset: int) -> list[Edit]:
         source.encoding = self.source.encoding
         try:
-            return Patcher(source, new).edits()
+            return Patcher(source, new, Marks(b"", self.marks.offset + offset, self.marks.sign)).edits()
         except Cannot:
             return []
 
@@ -47,56 +57,82 @@ class Patcher(Nodes):
         old, new = field_of(owner_old, name).children, field_of(owner_new, name).children
         if old and self._leads(old[0]):
             indent = self._indent(self._begin(old[0]))
-        homes = {id(it): at for at, it in enumerate(old)}
-        kept = [homes.get(id(self._origin(it))) for it in new]
         # at one place, what comes first stands first: what is before all statements, what is in one, what is after it
         front: list[Edit] = []
         changed: list[Edit] = []
         between: list[Edit] = []
-        pairs = aligned(kept)
+        pairs = self._unbroken(old, new, self._pairs(old, new))
         for at, other in pairs:
-            changed += self._checked(old[at], new[other], indent)
+            changed += self._statement(old[at], new[other], indent)
         for (old_from, new_from), (old_to, new_to) in zip([(-1, -1), *pairs], [*pairs, (len(old), len(new))]):
-            # of the others one made anew, of the same constructor and of parts of an old one, is that statement
-            goes, comes = old[old_from + 1 : old_to], new[new_from + 1 : new_to]
-            begin = 0
-            while True:
-                match = next(
-                    (
-                        (one, two)
-                        for two in range(len(comes))
-                        for one in range(begin, len(goes))
-                        if self._origin(comes[two]) is None
-                        and comes[two].head == goes[one].head
-                        and self._owner(goes, 0, len(goes), comes[two]) in (None, one)
-                    ),
-                    None,
-                )
-                one, two = match or (len(goes), len(comes))
-                last = old_from + 1 + one
-                edits = front if last == 0 else between
-                edits += self._gap(old, old_from + 1 + begin, last, comes[:two], indent)
-                if match is None:
-                    break
-                changed += self._checked(goes[one], comes[two], indent)
-                comes, begin = comes[two + 1 :], one + 1
+            edits = self._gap(old, old_from + 1, old_to, new[new_from + 1 : new_to], indent)
+            (between if old_from >= 0 else front).extend(edits)
         return front + changed + between
 
-    # The edits of one statement. One with blocks has no place in a line with others.
-    def _checked(self, old: Term, new: Term, indent: bytes) -> list[Edit]:
-        edits = self._statement(old, new, indent)
-        if new.head in BLOCKS and edits and (not self._leads(old) or self._is_followed(old)):
-            raise Cannot
-        return edits
+    # The old and the new places of the statements that are the same ones, in order.
+    def _pairs(self, old: tuple[Term, ...], new: tuple[Term, ...]) -> list[tuple[int, int]]:
+        homes = {id(it): at for at, it in enumerate(old)}
+        pairs = aligned([homes.get(id(self._was(it))) for it in new])
+        found: list[tuple[int, int]] = []
+        for (old_from, new_from), (old_to, new_to) in zip([(-1, -1), *pairs], [*pairs, (len(old), len(new))]):
+            goes, comes = range(old_from + 1, old_to), range(new_from + 1, new_to)
+            found += [*self._replacements(old, goes, new, comes), (old_to, new_to)]
+        return found[:-1]
+
+    # Of the others one made anew of nothing old, or of parts of it, is the one of the same constructor that is gone.
+    def _replacements(self, old: tuple[Term, ...], goes: range, new: tuple[Term, ...], comes: range) -> list[tuple[int, int]]:
+        found: list[tuple[int, int]] = []
+        left = [at for at in goes if not self.plain and not self.former.is_taken(old[at])]
+        begins = [self._begin(old[at]) for at in goes]
+        for other in comes if left else ():
+            if self._was(new[other]) is not None:
+                continue
+            part = self.former.part_of(new[other])
+            owner = None if part is None else self._owner(old, goes, begins, part)
+            if part is not None and owner is None:
+                continue
+            at = next((it for it in left if old[it].head == new[other].head and owner in (None, it)), None)
+            if at is not None:
+                found.append((at, other))
+                left = [it for it in left if it > at]
+        return found
+
+    # The pairs but for those in lines that are broken up, since a statement with a block has to be on lines of its own.
+    def _unbroken(self, old: tuple[Term, ...], new: tuple[Term, ...], pairs: list[tuple[int, int]]) -> list[tuple[int, int]]:
+        broken: set[int] = set()
+        for (old_from, new_from), (old_to, new_to) in zip([(-1, -1), *pairs], [*pairs, (len(old), len(new))]):
+            if any(it.head in BLOCKS for it in new[new_from + 1 : new_to]):
+                if old_to == old_from + 1:
+                    # between two statements of one line, or before or after those of a block that is in the line of its head
+                    if old_to < len(old) and not self._leads(old[old_to]):
+                        broken.update(self._line_of(old, old_to))
+                    elif old_to == len(old) > 0 and not self._leads(old[0]):
+                        broken.update(self._line_of(old, 0))
+                for at in range(old_from + 1, old_to):
+                    line = self._line_of(old, at)
+                    if len(line) > 1 or not self._leads(old[at]):
+                        broken.update(line)
+        return [it for it in pairs if it[0] not in broken] if broken else pairs
+
+    # The statements in the line of one.
+    def _line_of(self, old: tuple[Term, ...], at: int) -> range:
+        first, last = at, at + 1
+        while first > 0 and not self._leads(old[first]):
+            first -= 1
+        while last < len(old) and not self._leads(old[last]):
+            last += 1
+        return range(first, last)
 
     # The edits where the statements from one place to another go, and others come. What has parts of an old one takes its
     # place.
     def _gap(self, old: tuple[Term, ...], first: int, last: int, comes: tuple[Term, ...], indent: bytes) -> list[Edit]:
-        if first == last or not comes:
+        if first == last or not comes or self._is_broken(old, first, last, comes):
             return self._replaced(old, first, last, comes, indent)
         units: list[tuple[int | None, list[Term]]] = []
+        begins = [self._begin(it) for it in old[first:last]]
         for it in comes:
-            owner = self._owner(old, first, last, it)
+            part = self.former.part_of(it)
+            owner = None if part is None else self._owner(old, range(first, last), begins, part)
             if units and owner is not None and units[-1][0] == owner:
                 units[-1][1].append(it)
             else:
@@ -115,17 +151,17 @@ class Patcher(Nodes):
             edits += self._replaced(old, at, at + 1, tuple(units[unit][1]), indent)
         return edits
 
-    # The one of the old statements, by its place, that a new one has its first old part from.
-    def _owner(self, old: tuple[Term, ...], first: int, last: int, new: Term) -> int | None:
-        waiting = [new]
-        while waiting:
-            it = waiting.pop()
-            origin = self._origin(it)
-            if origin is not None:
-                place = span(origin)[0]
-                return next((at for at in range(first, last) if self._begin(old[at]) <= place < span(old[at])[1]), None)
-            waiting.extend(reversed(it.children))
-        return None
+    # Whether a line of several statements, or in the line of a block's head, is broken up.
+    def _is_broken(self, old: tuple[Term, ...], first: int, last: int, comes: tuple[Term, ...]) -> bool:
+        return any(it.head in BLOCKS for it in comes) and any(
+            not self._leads(it) or self._is_followed(it) for it in old[first:last]
+        )
+
+    # The one of some old statements, which begin at these places, that an old node is in.
+    def _owner(self, old: tuple[Term, ...], places: range, begins: list[int], part: Term) -> int | None:
+        place = span(part)[0]
+        at = bisect_right(begins, place) - 1
+        return places[at] if at >= 0 and place < span(old[places[at]])[1] else None
 
     # The edits where some statements, or none, are in the place of others.
     def _replaced(self, old: tuple[Term, ...], first: int, last: int, comes: tuple[Term, ...], indent: bytes) -> list[Edit]:
@@ -137,6 +173,10 @@ class Patcher(Nodes):
         begin, end = self._begin(old[first]), span(old[last - 1])[1]
         if not comes:
             return self._deleted(old, first, last)
+        if not simple and not self._leads(old[0]):
+            # a block in the line of its head
+            begin = self.tokens.tokens[self.tokens.before(self._begin(old[0]))].last
+            return [Edit(begin, self._end_with_comments(old[last - 1]), self.newline + indent + self._rendered(comes, indent))]
         if not self._leads(old[first]) or self._is_followed(old[last - 1]):
             if not simple:
                 raise Cannot
@@ -176,7 +216,7 @@ class Patcher(Nodes):
             elif first == 0:
                 raise Cannot
             else:
-                edits.append(Edit(span(old[first - 1])[1], end, b""))
+                edits.append(Edit(span(old[first - 1])[1], self._end_with_comments(old[stop - 1]), b""))
             first = stop
         is_last = last == len(old)
         return edits + [self._lines_away(*it, is_last and it is lines[-1]) for it in lines]
@@ -278,7 +318,7 @@ class Patcher(Nodes):
     def _room(self, statement: Term, indent: bytes) -> int:
         if statement.head not in DEFINITIONS:
             return 0
-        origin = self._origin(statement)
+        origin = self._was(statement)
         home = self.homes.get(id(origin)) if origin is not None else None
         if origin is None or home is None:
             return self._usual_room[bool(indent)]
@@ -295,15 +335,15 @@ class Patcher(Nodes):
             if at:
                 room = max(self._room(new[at - 1], indent), self._room(new[at], indent))
                 texts.append(self.newline * (1 + room) + indent)
-            origin = None if self.plain else self._origin(new[at])
+            origin = self._was(new[at])
             home = self.homes.get(id(origin)) if origin is not None else None
-            if origin is None or home is None:
+            if origin is None or home is None or self.plain:
                 texts.append(self._fresh_statement(new[at], indent))
                 at += 1
                 continue
             chunk = [(origin, new[at])]
             while at + len(chunk) < len(new):
-                following = self._origin(new[at + len(chunk)])
+                following = self._was(new[at + len(chunk)])
                 if following is None or self.homes.get(id(following)) != (home[0], home[1] + len(chunk)):
                     break
                 chunk.append((following, new[at + len(chunk)]))
@@ -315,7 +355,7 @@ class Patcher(Nodes):
     def _is_whole(self, block: Term, new: Sequence[Term]) -> bool:
         if block is field_of(self.old, "body"):
             return False
-        there = {id(self._origin(it)) for it in new}
+        there = {id(self._was(it)) for it in new}
         return all(id(it) in there for it in block.children)
 
     def _chunk(self, chunk: list[tuple[Term, Term]], indent: bytes, is_whole: bool) -> bytes:
@@ -338,14 +378,14 @@ class Patcher(Nodes):
             self.carrying.update(it.first for it in self.tokens.comments_between(place, until))
         # an edit of the first or the last line may be one of the whole line
         first, last = min([begin, *(it.first for it in edits)]), max([end, *(it.last for it in edits)])
-        text = apply_edits(self.text, first, last, edits)
+        text = self._copied(first, last, edits)
         text = text.lstrip(b" \t\f") if first < begin else text
         return self._indented(text.rstrip(b"\r\n") if last > end else text, before, indent)
 
     # The edits for a block of a statement, with its `else` or `finally`.
     def _clause(self, old: Term, new: Term, name: str) -> list[Edit]:
         one, two = field_of(old, name).children, field_of(new, name).children
-        outer = self._indent(span(old)[0])
+        outer = self._indent(self._case(old) if old.head == "match_case" else span(old)[0])
         inner = outer + self.tokens.unit
         if name == "body":
             return self._block(old, new, name, inner)
@@ -410,8 +450,15 @@ class Patcher(Nodes):
         edits: list[Edit] = []
         for it, other in zip(one, two):
             if it is not other:
-                edits += self._fields(other, (), it, other)
+                edits += self._fields(Place(it, other), it, other)
         return edits
+
+    # Where a `case` begins, which has no position.
+    def _case(self, case: Term) -> int:
+        at = self.tokens.before(span(field_of(case, "pattern"))[0])
+        while self.tokens.tokens[at].text != "case":
+            at -= 1
+        return self.tokens.tokens[at].first
 
     # Decorators, each on a line of its own.
     def _decorators(self, old: Term, new: Term) -> list[Edit]:
@@ -425,7 +472,7 @@ class Patcher(Nodes):
         for (old_from, new_from), (old_to, new_to) in zip([(-1, -1), *pairs], [*pairs, (len(one), len(two))]):
             goes, comes = one[old_from + 1 : old_to], two[new_from + 1 : new_to]
             for it, other in zip(goes, comes):
-                edits.append(Edit(*self._around((self._at_sign(it), span(old)[0]), it), self._text(other).encode()))
+                edits.append(Edit(*self._around((self._at_sign(it), span(old)[0]), it), self._text(other, indent).encode()))
             for it in goes[len(comes) :]:
                 begin = self._leading_comments(self._at_sign(it), self.carried)
                 edits.append(Edit(self._line_start(begin), self._decorator_end(it)[1], b""))
@@ -440,7 +487,7 @@ class Patcher(Nodes):
 
     # The text of a decorator. One from elsewhere has the comments before it, but for the first, and that in its line.
     def _decorator(self, decorator: Term, indent: bytes) -> bytes:
-        text = b"@" + self._text(decorator).encode()
+        text = b"@" + self._text(decorator, indent).encode()
         origin = self._origin(decorator)
         home = self.homes.get(id(origin)) if origin is not None else None
         if origin is None or home is None or self.plain or self.tokens.text_at(self.tokens.before(span(origin)[0])) != "@":
@@ -449,8 +496,8 @@ class Patcher(Nodes):
         begin = self._leading_comments(sign) if home[1] else sign
         self.carrying.update(it.first for it in self.tokens.comments_between(begin, sign))
         comment = self._comment_after(end)
-        text = self._indented(self.text[begin:sign], self._indent(sign), indent) + text
-        return text if comment is None else text + self.text[end : comment.last]
+        text = self._indented(self._copied(begin, sign, []), self._indent(sign), indent) + text
+        return text if comment is None else text + self._copied(end, comment.last, [])
 
     def _decorator_end(self, decorator: Term) -> tuple[int, int]:
         at = self.tokens.after(span(decorator)[1])

@@ -47,6 +47,9 @@ class Tokens:
         self.unit = units[0] if units else b"    "
         self.firsts = [it.first for it in self.tokens]
         self.lasts = [it.last for it in self.tokens]
+        ends = [at for at, it in enumerate(self.tokens) if it.kind == tokenize.NEWLINE]
+        # where the lines of the grammar begin, which may be several of the text
+        self.line_firsts = [0, *(self.tokens[at + 1].first for at in ends if at + 1 < len(self.tokens))]
         self.comment_firsts = [it.first for it in self.comments]
         # those on lines of their own
         lone = (it for it in self.comments if not text[starts[bisect_right(starts, it.first) - 1] : it.first].strip())
@@ -59,6 +62,10 @@ class Tokens:
     def before(self, place: int) -> int:
         """The index of the last token that ends at the place or before it, or -1."""
         return bisect_right(self.lasts, place) - 1
+
+    def logical_line(self, place: int) -> int:
+        """Where the line of the grammar begins that a place is in."""
+        return self.line_firsts[bisect_right(self.line_firsts, place) - 1]
 
     def between(self, first: int, last: int) -> list[Token]:
         """The tokens from one place to the other."""

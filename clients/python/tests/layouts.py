@@ -1,0 +1,88 @@
+"""Cases of patches as data, in `patches/*.txt`. A case is a few lines:
+
+    === what it shows
+    do: topdown(try(\\ Name("old",c) -> Name("new",c) \\))
+    --- before
+    f( old )  # one
+    --- after
+    f( new )  # one
+    --- lost
+    1: # one
+
+`do` is the strategy. With `keep:` in its place the command runs with `--keep-comments`. A line that begins with a blank goes on
+with it. After `lost`, which may be left out, are the comments that are to be named, with their lines; with `keep` those for which
+a place is left. A file begins with the names of the modules of `strategies` that its cases need besides `python`, and with
+rules, which are a module of their own.
+"""
+
+import glob
+import os
+import re
+import tempfile
+from typing import NamedTuple
+
+from stratbench import outcomes, python, refactor
+from stratbench.patch import Unwritable
+
+
+class Case(NamedTuple):
+    title: str
+    keep: bool
+    strategy: str
+    before: str
+    after: str
+    lost: list
+
+
+def read_cases(text):
+    """The names of modules, the text of the module of the file's own, and its cases."""
+    head, *parts = re.split(r"^=== ", text, flags=re.MULTILINE)
+    names = re.search(r"^modules:(.*)\n", head, re.MULTILINE)
+    rules = "module cases\n" + (head.replace(names[0], "") if names else head)
+    return (names[1].split() if names else []), rules, [read_case(it) for it in parts]
+
+
+def read_case(text):
+    title, rest = text.split("\n", 1)
+    how, *sections = re.split(r"^--- (before|after|lost)\n", rest, flags=re.MULTILINE)
+    found = dict(zip(sections[::2], sections[1::2]))
+    word, strategy = how.split(":", 1)
+    assert word in ("do", "keep") and "before" in found and "after" in found, title
+    return Case(title, word == "keep", strategy.strip(), found["before"], found["after"], found.get("lost", "").splitlines())
+
+
+def results(top, names, rules, cases):
+    """The trees that the strategies give, by one process of the workbench."""
+    modules = []
+    for name in ["python", *names]:
+        with open(f"{top}/strategies/{name}.str", "rb") as it:
+            modules.append((name, it.read()))
+    task = refactor.Task((*modules, ("cases", rules.encode())), "id")
+    sources = [python.Source(it.before.encode()) for it in cases]
+    with tempfile.TemporaryDirectory() as room:
+        found = refactor._Bench(room, task).previews([it.term for it in sources], [it.strategy for it in cases])
+    return zip(cases, sources, found)
+
+
+def fault_of(case, source, result):
+    """What is wrong with a case, or nothing."""
+    if not isinstance(result, dict):
+        return f"refused: {result}"
+    new = refactor.exchange(source.term, result)
+    try:
+        found = outcomes.with_comments(source, new, list(result)) if case.keep else outcomes.rewritten(source, new)
+    except Unwritable as error:
+        return f"unwritable: {error}"
+    lost = [f"{source.lines.number(it.first)}: {it.text}" for it in found.lost]
+    if found.text.decode() != case.after:
+        return f"{found.text.decode()}wanted\n{case.after}"
+    return "" if lost == case.lost else f"lost are {lost}, wanted {case.lost}"
+
+
+def tests(top):
+    """The title of each case, and what is wrong with it."""
+    for file in sorted(glob.glob(f"{os.path.dirname(__file__)}/patches/*.txt")):
+        with open(file, newline="") as it:
+            names, rules, cases = read_cases(it.read())
+        for case, source, result in results(top, names, rules, cases):
+            yield f"{os.path.basename(file)[:-4]}: {case.title}", fault_of(case, source, result)
