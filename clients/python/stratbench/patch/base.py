@@ -15,7 +15,7 @@ from ..terms import LIST, Term
 from .comments import Marks
 from .edits import DEFINITIONS, DISPLAYS, Cannot, Edit, apply_edits, field_of, normal, span
 from .former import Former
-from .tokens import Token, Tokens, inner_lines
+from .tokens import BRACKETS, Token, Tokens, inner_lines
 
 
 class Place(NamedTuple):
@@ -56,9 +56,11 @@ class Base(ABC):
         self.new = self._shared(new, self.old)
         # whether changed statements are made anew as a whole
         self.plain = False
-        # the comments that go with statements to other places: by the pass before, and so far by this one
+        # the comments that go with statements to other places: by the pass before, and so far by this one, with the statements; and the
+        # statements that stay where they are
         self.carried: set[int] = set()
-        self.carrying: set[int] = set()
+        self.carrying: list[tuple[int, int]] = []
+        self.staying: set[int] = set()
         self.newline = b"\r\n" if b"\r\n" in self.text[: self._line_end(0)[1]] else b"\n"
         if self.newline == b"\n" and b"\n" not in self.text and b"\r" in self.text:
             self.newline = b"\r"
@@ -95,11 +97,11 @@ class Base(ABC):
 
     # Edits, or nothing where they can't be made. Then no comments go elsewhere by them.
     def _tried(self, edits: Callable[[], list[Edit]]) -> list[Edit] | None:
-        before = set(self.carrying)
+        before = len(self.carrying)
         try:
             return edits()
         except Cannot:
-            self.carrying = before
+            del self.carrying[before:]
             return None
 
     def _origin(self, term: Term) -> Term | None:
@@ -278,7 +280,7 @@ class Base(ABC):
         tokens = self.tokens.between(*span(term))
         depth = 0
         for at, token in enumerate(tokens):
-            depth += {"(": 1, "[": 1, "{": 1, ")": -1, "]": -1, "}": -1}.get(token.text, 0)
+            depth += BRACKETS.get(token.text, 0)
             if depth == 0:
                 return at == len(tokens) - 1 and tokens[0].text == "("
         return False

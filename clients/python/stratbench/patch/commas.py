@@ -10,6 +10,7 @@ from ..terms import LIST, Term, string
 from .base import Place
 from .edits import DISPLAYS, NONE, PASS, Cannot, Edit, aligned, field_of, is_same, span
 from .fresh import Fresh
+from .tokens import BRACKETS
 
 # The text of an item, from the nodes that it is made of.
 Texts = Callable[[Tuple[Term, ...]], str]
@@ -143,7 +144,7 @@ class Commas(Fresh):
 
     # The text of an item of one node.
     def _alone(self, inside: tuple[int, int]) -> Texts:
-        return lambda parts: self._text(parts[0], self._frame(inside[0]))
+        return lambda parts: self._text(parts[0], self._frame(inside[0]), self.tokens.in_brackets(inside[0]))
 
     # The edits that take the items from one to another away.
     def _without(self, inside: tuple[int, int], old: Sequence[Item], first: int, last: int, more: bool, trailing: bool) -> list[Edit]:
@@ -205,12 +206,12 @@ class Commas(Fresh):
         at = self.tokens.after(span(old)[0]) + 2
         if self.tokens.text_at(at) != "(":
             name = self.tokens.tokens[at - 1]
-            texts = [self._text(it, self._frame(name.first)).encode() for it in after]
+            texts = [self._text(it, self._frame(name.first), True).encode() for it in after]
             return [Edit(name.last, name.last, b"(" + b", ".join(texts) + b")")]
         depth, end = 1, at
         while depth:
             end += 1
-            depth += {"(": 1, "[": 1, "{": 1, ")": -1, "]": -1, "}": -1}.get(self.tokens.text_at(end), 0)
+            depth += BRACKETS.get(self.tokens.text_at(end), 0)
         inside = (self.tokens.tokens[at].last, self.tokens.tokens[end].first)
         elements = [self._item(inside, it) for it in before]
         return self._items(place, inside, elements, [(it,) for it in after])
@@ -243,7 +244,7 @@ class Commas(Fresh):
         if old.head == "Lambda":
             depth, end = 0, at + 1
             while depth or tokens.text_at(end) != ":":
-                depth += {"(": 1, "[": 1, "{": 1, ")": -1, "]": -1, "}": -1}.get(tokens.text_at(end), 0)
+                depth += BRACKETS.get(tokens.text_at(end), 0)
                 end += 1
             inside = (tokens.tokens[at].last, tokens.tokens[end].first)
         else:
@@ -254,7 +255,7 @@ class Commas(Fresh):
             depth, end = 1, at
             while depth:
                 end += 1
-                depth += {"(": 1, "[": 1, "{": 1, ")": -1, "]": -1, "}": -1}.get(tokens.text_at(end), 0)
+                depth += BRACKETS.get(tokens.text_at(end), 0)
             inside = (tokens.tokens[at].last, tokens.tokens[end].first)
         indent = self._frame(inside[0])
         before, after = flat_parameters(one), flat_parameters(two)
@@ -274,8 +275,8 @@ class Commas(Fresh):
 
         def text(parts: tuple[Term, ...]) -> str:
             equals = " = " if parts[0].children[1].head != "None" else "="
-            default = equals + self._text(parts[1], indent) if len(parts) > 1 else ""
-            return marks.get(id(parts[0]), "") + self._text(parts[0], indent) + default
+            default = equals + self._text(parts[1], indent, True) if len(parts) > 1 else ""
+            return marks.get(id(parts[0]), "") + self._text(parts[0], indent, True) + default
 
         # a parameter that changes its kind is no longer itself
         for parts, (sign, name, _) in zip(news, after):

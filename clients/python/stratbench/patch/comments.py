@@ -34,15 +34,19 @@ class Marks:
 
     def edits(self, comments: Sequence[Token], edits: Sequence[Edit]) -> list[Edit]:
         """Returns the edits that mark these comments where they stay."""
-        return [self._put(it) for it in _staying(comments, edits)]
+        return [self._put(it) for it in staying(comments, edits)]
 
     def _put(self, comment: Token) -> Edit:
         place = comment.first + 1
         return Edit(place, place, b"%s%d%s" % (self.sign, comment.first + self.offset, self.sign))
 
+    def noted(self, edits: Sequence[Edit]) -> set[int]:
+        """Returns the comments that are in the texts of edits."""
+        return {int(found[1]) for it in edits if self.sign in it.text for found in self._mark.finditer(it.text)}
+
     def resolved(self, edits: Sequence[Edit], comments: Sequence[Token]) -> Patch:
         """Returns the edits without marks and with each comment once, and which of the comments are lost."""
-        there = {it.first for it in _staying(comments, edits)}
+        there = {it.first for it in staying(comments, edits)}
         found = [it._replace(text=self._once(it.text, there)) if self.sign in it.text else it for it in edits]
         return Patch(found, [it for it in comments if it.first not in there])
 
@@ -61,8 +65,8 @@ class Marks:
         return b"".join([*out, text[end:]])
 
 
-# The comments that are in none of the edits, which are in order.
-def _staying(comments: Sequence[Token], edits: Sequence[Edit]) -> list[Token]:
+def staying(comments: Sequence[Token], edits: Sequence[Edit]) -> list[Token]:
+    """Returns the comments that are in none of the edits, which are in order."""
     firsts = [it.first for it in edits]
     found: list[Token] = []
     for it in comments:

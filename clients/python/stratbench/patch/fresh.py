@@ -5,25 +5,21 @@ from __future__ import annotations
 import ast
 import re
 from abc import abstractmethod
-from typing import Final
 
 from ..python import CONSTRUCTORS, parse, unparse
 from ..terms import LIST, NoTerm, Term, string
 from .base import Base
-from .edits import BLOCKS, DISPLAYS, EXPRESSIONS, LOAD, STATEMENTS, Cannot, Edit, span
-from .markers import Piece, filled, marker_of, unparsed
-
-
-_STRINGS: Final = re.compile(r"""('''|\"\"\"|'|")(?:\\.|(?!\1).)*\1""", re.DOTALL)
+from .edits import BLOCKS, DISPLAYS, LOAD, STATEMENTS, Cannot, Edit, span
+from .markers import STRINGS, Piece, closed, filled, marker_of, unparsed
 
 
 class Fresh(Base):
     """How nodes are written that weren't there before."""
 
-    # The text of a node, its own where it is an old one, in a statement of an indentation.
-    def _text(self, term: Term, indent: bytes) -> str:
+    # The text of a node, its own where it is an old one, in a statement of an indentation. Between brackets it may go over lines.
+    def _text(self, term: Term, indent: bytes, inside: bool = False) -> str:
         known = self._piece_text(term, indent)
-        return self._fresh(term, indent) if known is None else known
+        return self._fresh(term, indent, inside=inside) if known is None else closed(known, str(term.head), inside)
 
     def _piece_text(self, term: Term, indent: bytes) -> str | None:
         origin = None if self.plain else self._origin(term)
@@ -37,27 +33,22 @@ class Fresh(Base):
         text = self._indented(own, self._frame(first), indent, True).decode()
         if term.head == "Tuple" and not self._is_bracketed_tuple(origin) and not any(it.head == "Slice" for it in term.children[0].children):
             return f"({text})"
-        if term.head in EXPRESSIONS and ("\n" in text or "\r" in text) and term.head not in ("Starred", "Slice"):
-            try:
-                parse(text)
-            except SyntaxError:
-                return f"({text})"
         return text
 
     # The text of a node that is made anew, with the texts of old ones in it.
-    def _fresh(self, term: Term, indent: bytes, old: Term | None = None) -> str:
+    def _fresh(self, term: Term, indent: bytes, old: Term | None = None, inside: bool = False) -> str:
         if term.head in STATEMENTS:
             return self._fresh_statement(term, b"").decode()
         if old is not None:
             known = self._piece_text(term, indent) if self._origin(term) is not old else None
             if known is not None:
-                return known
+                return closed(known, str(term.head), inside)
         display = None if self.plain else self._display_text(term, indent)
         if display is not None:
             return display
         pieces: list[Piece] = []
         made = self._with_pieces(term, pieces, indent, root=True)
-        text = filled(self._fitting(unparsed(made)), pieces)
+        text = filled(self._fitting(unparsed(made)), pieces, inside)
         if term.head in ("JoinedStr", "Constant") and old is not None:
             return self._requoted(text, old)
         return text
@@ -86,7 +77,7 @@ class Fresh(Base):
         encoding = self.source.encoding
         if encoding.startswith("utf-8"):
             return text
-        return _STRINGS.sub(lambda it: it.group().encode(encoding, "backslashreplace").decode(encoding), text)
+        return STRINGS.sub(lambda it: it.group().encode(encoding, "backslashreplace").decode(encoding), text)
 
     # A string in the quotes of the first one that was in its place, and as raw as that.
     def _requoted(self, text: str, old: Term) -> str:

@@ -4,11 +4,16 @@ from __future__ import annotations
 
 import re
 from collections.abc import Sequence
-from typing import NamedTuple
+from itertools import accumulate
+from typing import Final, NamedTuple
 
 from ..python import parse, to_term, unparse
 from ..terms import LIST, Term, string
 from .edits import EXPRESSIONS, LOAD, NONE, PASS, PATTERNS, STATEMENTS, Cannot, same_tree
+from .tokens import BRACKETS
+
+
+STRINGS: Final = re.compile(r"""('''|\"\"\"|'|")(?:\\.|(?!\1).)*\1""", re.DOTALL)
 
 
 class Piece(NamedTuple):
@@ -82,18 +87,32 @@ def marker_of(term: Term, number: int) -> tuple[str, Term]:
 
 
 # The text with those of the pieces in the places of their markers.
-def filled(text: str, pieces: Sequence[Piece]) -> str:
-    for piece in pieces:
-        first = text.find(piece.shown)
-        if first < 0:
-            continue
-        last, own = first + len(piece.shown), piece.text
+def filled(text: str, pieces: Sequence[Piece], inside: bool = False) -> str:
+    depths = [0, *accumulate(BRACKETS.get(it, 0) for it in STRINGS.sub(lambda it: "_" * len(it.group()), text))]
+    places = sorted((at, piece) for piece in pieces if (at := text.find(piece.shown)) >= 0)
+    out: list[str] = []
+    end = 0
+    for first, piece in places:
+        last = first + len(piece.shown)
+        own = closed(piece.text, piece.head, inside or depths[first] > 0)
         around = text[first - 1 : first] == "(" and text[last : last + 1] == ")"
         if around and (piece.head == "Tuple" or (piece.head == "GeneratorExp" and re.match(r"[\w)\]]", text[first - 2 : first - 1]))):
             first, last = first - 1, last + 1
         if piece.head == "Constant" and text[last : last + 1] == "." and own[0].isdigit():
             own = f"({own})"
-        text = text[:first] + own + text[last:]
+        out += [text[end:first], own]
+        end = last
+    return "".join([*out, text[end:]])
+
+
+# The text of a node, in brackets where it goes over lines and isn't inside brackets.
+def closed(text: str, head: str, inside: bool) -> str:
+    if inside or ("\n" not in text and "\r" not in text) or head not in EXPRESSIONS or head in ("Starred", "Slice"):
+        return text
+    try:
+        parse(text)
+    except SyntaxError:
+        return f"({text})"
     return text
 
 

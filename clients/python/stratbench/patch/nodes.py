@@ -44,7 +44,7 @@ class Nodes(Joined):
                 found = self._tried(lambda: self._display(old, new))
             if found is not None:
                 return found
-        return [Edit(first, last, self._fresh(new, self._frame(first), old).encode())]
+        return [Edit(first, last, self._fresh(new, self._frame(first), old, self.tokens.in_brackets(first)).encode())]
 
     # The edits within a node whose constructor stays.
     def _inside(self, old: Term, new: Term) -> list[Edit]:

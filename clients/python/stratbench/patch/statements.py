@@ -8,11 +8,12 @@ from collections.abc import Sequence
 from functools import cached_property
 
 from ..python import Source
-from ..terms import Term
+from ..terms import LIST, Term
 from .base import Place
-from .comments import Marks, Patch
-from .edits import BLOCKS, DEFINITIONS, IMPORTS, PLACES, Cannot, Edit, aligned, field_of, span
+from .comments import Marks, Patch, staying
+from .edits import BLOCKS, DEFINITIONS, IMPORTS, PLACES, STATEMENTS, Cannot, Edit, aligned, field_of, span
 from .nodes import Nodes
+from .tokens import Token
 
 
 class Patcher(Nodes):
@@ -22,18 +23,30 @@ class Patcher(Nodes):
         """Returns the edits, in order, with marks in the comments of what is copied."""
         if self.old is self.new:
             return []
-        self.carried, self.carrying = set(), set()
+        self.carried, self.carrying, self.staying = set(), [], set()
         found = self._block(self.old, self.new, "body", b"")
         if self.carrying:
             # once more, now that the comments that go elsewhere are known
-            self.carried = self.carrying
+            self.carried = {comment for comment, statement in self.carrying if statement not in self.staying}
             found = self._block(self.old, self.new, "body", b"")
         return sorted(found, key=lambda it: (it.first, it.last))
 
     def patch(self) -> Patch:
         """Returns the edits, and the comments that are lost."""
         edits = self.edits()
-        return self.marks.resolved(edits, self.tokens.comments) if edits else Patch([], [])
+        if not edits:
+            return Patch([], [])
+        there = self.marks.noted(edits) & self.carried
+        left = [self._away(it) for it in staying(self.tokens.comments, edits) if it.first in there]
+        if left:
+            edits = sorted([*edits, *left], key=lambda it: (it.first, it.last))
+        return self.marks.resolved(edits, self.tokens.comments)
+
+    # The edit without a comment, and without its line where it is alone there.
+    def _away(self, comment: Token) -> Edit:
+        if comment.first in self.tokens.comment_lines:
+            return Edit(self._line_start(comment.first), self._line_end(comment.first)[1], b"")
+        return Edit(self.tokens.tokens[self.tokens.before(comment.first)].last, comment.last, b"")
 
     def _expression(self, source: Source, new: Term, offset: int) -> list[Edit]:
         source.encoding = self.source.encoding
@@ -62,6 +75,7 @@ class Patcher(Nodes):
         changed: list[Edit] = []
         between: list[Edit] = []
         pairs = self._unbroken(old, new, self._pairs(old, new))
+        self.staying.update(id(old[at]) for at, _ in pairs)
         for at, other in pairs:
             changed += self._statement(old[at], new[other], indent)
         for (old_from, new_from), (old_to, new_to) in zip([(-1, -1), *pairs], [*pairs, (len(old), len(new))]):
@@ -138,18 +152,32 @@ class Patcher(Nodes):
             else:
                 units.append((owner, [it]))
         edits: list[Edit] = []
-        pairs = aligned([owner for owner, _ in units])
-        for (old_from, new_from), (old_to, new_to) in zip([(first - 1, -1), *pairs], [*pairs, (last, len(units))]):
+        pairs = [(at, self._held(old, at, last, units[unit][1]), unit) for at, unit in aligned([owner for owner, _ in units])]
+        for (_, old_from, new_from), (old_to, _, new_to) in zip([(first, first, -1), *pairs], [*pairs, (last, last, len(units))]):
             between = [it for _, terms in units[new_from + 1 : new_to] for it in terms]
-            goes = old_to - old_from - 1
-            if goes == len(between):
-                for at, it in enumerate(between, old_from + 1):
+            if old_to - old_from == len(between):
+                for at, it in enumerate(between, old_from):
                     edits += self._replaced(old, at, at + 1, (it,), indent)
             else:
-                edits += self._replaced(old, old_from + 1, old_to, tuple(between), indent)
-        for at, unit in pairs:
-            edits += self._replaced(old, at, at + 1, tuple(units[unit][1]), indent)
+                edits += self._replaced(old, old_from, old_to, tuple(between), indent)
+        for at, end, unit in pairs:
+            edits += self._replaced(old, at, end, tuple(units[unit][1]), indent)
         return edits
+
+    # Where the statements from one on end that are all in these new ones.
+    def _held(self, old: tuple[Term, ...], first: int, last: int, new: list[Term]) -> int:
+        held: set[int] = set()
+        waiting = list(new)
+        while waiting:
+            it = waiting.pop()
+            if it.head in STATEMENTS:
+                held.add(id(self._was(it)))
+            if it.head in BLOCKS:
+                waiting += [inner for child in it.children if child.head == LIST for inner in child.children]
+        end = first + 1
+        while end < last and id(old[end]) in held:
+            end += 1
+        return end
 
     # Whether a line of several statements, or in the line of a block's head, is broken up.
     def _is_broken(self, old: tuple[Term, ...], first: int, last: int, comes: tuple[Term, ...]) -> bool:
@@ -374,8 +402,9 @@ class Patcher(Nodes):
             end = follows.last
         if self._leads(chunk[-1][0]):
             end = self._tail(end, before, is_whole and self._ends_block(chunk[-1][0]))
-        for place, until in zip([begin, *(span(it)[1] for it, _ in chunk)], [*(self._begin(it) for it, _ in chunk), end]):
-            self.carrying.update(it.first for it in self.tokens.comments_between(place, until))
+        begins, ends = [self._begin(it) for it, _ in chunk], [span(it)[1] for it, _ in chunk]
+        for place, until, statement in zip([begin, *ends], [*begins, end], [*chunk, chunk[-1]]):
+            self.carrying.extend((it.first, id(statement[0])) for it in self.tokens.comments_between(place, until))
         # an edit of the first or the last line may be one of the whole line
         first, last = min([begin, *(it.first for it in edits)]), max([end, *(it.last for it in edits)])
         text = self._copied(first, last, edits)
@@ -494,7 +523,7 @@ class Patcher(Nodes):
             return text
         sign, end = self._at_sign(origin), span(origin)[1]
         begin = self._leading_comments(sign) if home[1] else sign
-        self.carrying.update(it.first for it in self.tokens.comments_between(begin, sign))
+        self.carrying.extend((it.first, id(origin)) for it in self.tokens.comments_between(begin, sign))
         comment = self._comment_after(end)
         text = self._indented(self._copied(begin, sign, []), self._indent(sign), indent) + text
         return text if comment is None else text + self._copied(end, comment.last, [])

@@ -5,9 +5,15 @@ from __future__ import annotations
 import re
 import tokenize
 from bisect import bisect_left, bisect_right
-from typing import NamedTuple
+from functools import cached_property
+from itertools import accumulate
+from typing import Final, NamedTuple
 
 from ..python import Lines
+
+
+# By how much a token leads into brackets, or out of them.
+BRACKETS: Final = {"(": 1, "[": 1, "{": 1, ")": -1, "]": -1, "}": -1}
 
 
 class Token(NamedTuple):
@@ -66,6 +72,14 @@ class Tokens:
     def logical_line(self, place: int) -> int:
         """Where the line of the grammar begins that a place is in."""
         return self.line_firsts[bisect_right(self.line_firsts, place) - 1]
+
+    def in_brackets(self, place: int) -> bool:
+        """Whether a place is between brackets, so that a line may end there."""
+        return self._depths[self.after(place)] > 0
+
+    @cached_property
+    def _depths(self) -> list[int]:
+        return [0, *accumulate(BRACKETS.get(it.text, 0) for it in self.tokens)]
 
     def between(self, first: int, last: int) -> list[Token]:
         """The tokens from one place to the other."""
