@@ -3,17 +3,15 @@
 from __future__ import annotations
 
 import codecs
-from collections.abc import Iterable, Sequence
+from collections.abc import Mapping, Sequence
 from typing import NamedTuple
 
+from .changes import Change, Path, changed, changes_of
 from .diff import unified
 from .patch import Edit, apply_edits, patch_of
 from .patch.tokens import Token
 from .python import Source, position
-from .terms import Term, exchange
-from .terms import at as subterm
-
-Path = tuple[int, ...]
+from .terms import Term
 
 
 class Rewritten(NamedTuple):
@@ -30,29 +28,37 @@ def rewritten(source: Source, new: Term) -> Rewritten:
     return Rewritten(edits, apply_edits(source.text, 0, len(source.text), edits), lost)
 
 
-def with_comments(source: Source, new: Term, paths: Iterable[Path]) -> Rewritten:
-    """Returns the source with a new tree, which differs at these paths, but without the places at which a comment would be lost. `lost`
-    are these comments."""
-    places = {path: subterm(new, path) for path in paths}
+def with_comments(source: Source, places: Mapping[Path, Term]) -> Rewritten:
+    """Returns the source with other terms at these places, but without the changes by which a comment would be lost. `lost` are these
+    comments."""
+    groups = changes_of(source.term, places)
     without: list[Token] = []
     while True:
-        found = rewritten(source, exchange(source.term, places))
+        found = rewritten(source, changed(source.term, [it for group in groups for it in group]))
         if not found.lost:
             return found._replace(lost=without)
         without += found.lost
-        for path in {_place_of(source, places, it) for it in found.lost}:
-            del places[path]
+        left = {_owner_of(source, groups, it) for it in found.lost}
+        groups = [it for at, it in enumerate(groups) if at not in left]
 
 
-# The place that a comment belongs to: the smallest in whose lines it is, or the last one before it.
-def _place_of(source: Source, places: Iterable[Path], comment: Token) -> Path:
-    found: list[tuple[bool, int, Path]] = []
-    for path in places:
-        above = next((above for above in _up(source.term, path) if position(above) is not None), None)
-        first, last = (above and position(above)) or (0, len(source.text))
-        inside = source.lines.number(first) <= source.lines.number(comment.first) <= source.lines.number(last)
-        found.append((not inside, last - first if inside else abs(comment.first - last), path))
+# The group of changes, by its index, that a comment belongs to: that with the smallest in whose lines it is, or the last one before it.
+def _owner_of(source: Source, groups: Sequence[Sequence[Change]], comment: Token) -> int:
+    found: list[tuple[bool, int, int]] = []
+    for at, group in enumerate(groups):
+        for it in group:
+            first, last = _span(source, it)
+            inside = source.lines.number(first) <= source.lines.number(comment.first) <= source.lines.number(last)
+            found.append((not inside, last - first if inside else abs(comment.first - last), at))
     return min(found)[2]
+
+
+# Where a change is: from the first to the last node that goes, or else the nearest node above.
+def _span(source: Source, change: Change) -> tuple[int, int]:
+    spans = [found for it in change.goes(source.term) if (found := position(it)) is not None]
+    if not spans:
+        spans = [found for it in _up(source.term, change.path) if (found := position(it)) is not None][:1]
+    return (spans[0][0], spans[-1][1]) if spans else (0, len(source.text))
 
 
 # The subterm at a path and those above it, from it on.

@@ -28,6 +28,7 @@ from .cluster import Cluster, Lost, Unreachable
 from .patch import Unwritable
 from .places import Command, Text
 from .python import Source, deep
+from .terms import at as subterm
 from .terms import NoTerm, Term, exchange, height, read, size, write
 
 # The bounds of the workbench: levels, which are fixed, and what it is started with for terms and steps.
@@ -120,7 +121,7 @@ def _outcome(name: str, source: Source, result: Result, task: Task) -> Outcome:
     try:
         found, why = outcomes.rewritten(source, result.new), "comment lost"
         if found.lost and task.keep_comments:
-            found, why = outcomes.with_comments(source, result.new, result.places), "left, since a comment would be lost"
+            found, why = outcomes.with_comments(source, {it: subterm(result.new, it) for it in result.places}), "left, since a comment would be lost"
         said = tuple(f"{name}:{source.lines.number(it.first)}: {why}: {it.text}" for it in found.lost)
         if not found.edits:
             return Outcome(name, said=said)

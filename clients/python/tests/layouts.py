@@ -70,7 +70,7 @@ def fault_of(case, source, result):
         return f"refused: {result}"
     new = refactor.exchange(source.term, result)
     try:
-        found = outcomes.with_comments(source, new, list(result)) if case.keep else outcomes.rewritten(source, new)
+        found = outcomes.with_comments(source, result) if case.keep else outcomes.rewritten(source, new)
     except Unwritable as error:
         return f"unwritable: {error}"
     lost = [f"{source.lines.number(it.first)}: {it.text}" for it in found.lost]
