@@ -11,6 +11,7 @@ from .diff import unified
 from .patch import Edit, apply_edits, patch_of
 from .patch.tokens import Token
 from .python import Source, position
+from .shadows import shadowed
 from .terms import Term
 
 
@@ -67,6 +68,11 @@ def _up(term: Term, path: Path) -> list[Term]:
     for step in path:
         found.append(found[-1].children[step])
     return found[::-1]
+
+
+def shadows(source: Source, new: Term) -> list[tuple[str, int]]:
+    """Returns the names of new imports that are bound to something else, too, with the lines of the source."""
+    return [(name, source.lines.number(place)) for name, place in shadowed(source.term, new)]
 
 
 def shown(name: str, source: Source, edits: Sequence[Edit]) -> bytes:

@@ -125,6 +125,7 @@ def _outcome(name: str, source: Source, result: Result, task: Task) -> Outcome:
         said = tuple(f"{name}:{source.lines.number(it.first)}: {why}: {it.text}" for it in found.lost)
         if not found.edits:
             return Outcome(name, said=said)
+        said += tuple(f"{name}:{line}: the new import of {what} is shadowed here" for what, line in outcomes.shadows(source, result.new))
         return Outcome(name, source.encoded(found.text), outcomes.shown(name, source, found.edits), said=said)
     except (NoTerm, Unwritable) as error:
         return Outcome(name, left=f"{name}: the result is no program: {error}", fault="is no program")

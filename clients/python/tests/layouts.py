@@ -8,10 +8,12 @@
     f( new )  # one
     --- lost
     1: # one
+    --- shadowed
+    1: f
 
 `do` is the strategy. With `keep:` in its place the command runs with `--keep-comments`. A line that begins with a blank goes on
 with it. After `lost`, which may be left out, are the comments that are to be named, with their lines; with `keep` those for which
-a place is left. A file begins with the names of the modules of `strategies` that its cases need besides `python`, and with
+a place is left. After `shadowed`, which may be left out, are the names of new imports that are bound to something else, too. A file begins with the names of the modules of `strategies` that its cases need besides `python`, and with
 rules, which are a module of their own.
 """
 
@@ -32,6 +34,7 @@ class Case(NamedTuple):
     before: str
     after: str
     lost: list
+    shadowed: list
 
 
 def read_cases(text):
@@ -44,11 +47,11 @@ def read_cases(text):
 
 def read_case(text):
     title, rest = text.split("\n", 1)
-    how, *sections = re.split(r"^--- (before|after|lost)\n", rest, flags=re.MULTILINE)
+    how, *sections = re.split(r"^--- (before|after|lost|shadowed)\n", rest, flags=re.MULTILINE)
     found = dict(zip(sections[::2], sections[1::2]))
     word, strategy = how.split(":", 1)
     assert word in ("do", "keep") and "before" in found and "after" in found, title
-    return Case(title, word == "keep", strategy.strip(), found["before"], found["after"], found.get("lost", "").splitlines())
+    return Case(title, word == "keep", strategy.strip(), found["before"], found["after"], found.get("lost", "").splitlines(), found.get("shadowed", "").splitlines())
 
 
 def results(top, names, rules, cases):
@@ -76,7 +79,10 @@ def fault_of(case, source, result):
     lost = [f"{source.lines.number(it.first)}: {it.text}" for it in found.lost]
     if found.text.decode() != case.after:
         return f"{found.text.decode()}wanted\n{case.after}"
-    return "" if lost == case.lost else f"lost are {lost}, wanted {case.lost}"
+    if lost != case.lost:
+        return f"lost are {lost}, wanted {case.lost}"
+    shadowed = [f"{line}: {name}" for name, line in outcomes.shadows(source, new)]
+    return "" if shadowed == case.shadowed else f"shadowed are {shadowed}, wanted {case.shadowed}"
 
 
 def tests(top):
