@@ -4,6 +4,7 @@ import re
 import tempfile
 
 import layouts
+import real_patches
 from stratbench import python, refactor
 from stratbench.diff import unified
 from stratbench.patch import Unwritable, apply_edits, patch, patched
@@ -290,6 +291,7 @@ def diffs(source, new):
 
 def tests(top, everything):
     yield from layouts.tests(top)
+    yield from real_patches.tests(everything)
     for title, source, result, wanted in cases(top):
         if not isinstance(result, dict):
             yield title, f"refused: {result}"
