@@ -10,7 +10,7 @@ from ..python import CONSTRUCTORS, parse, unparse
 from ..terms import LIST, NoTerm, Term, string
 from .base import Base
 from .edits import BLOCKS, DISPLAYS, LOAD, STATEMENTS, Cannot, Edit, span
-from .markers import STRINGS, Piece, closed, filled, marker_of, unparsed
+from .markers import STRINGS, Piece, closed, filled, lean, marker_of, unparsed
 
 
 class Fresh(Base):
@@ -48,7 +48,7 @@ class Fresh(Base):
             return display
         pieces: list[Piece] = []
         made = self._with_pieces(term, pieces, indent, root=True)
-        text = filled(self._fitting(unparsed(made)), pieces, inside)
+        text = filled(self._fitting(lean(unparsed(made), made)), pieces, inside)
         if term.head in ("JoinedStr", "Constant") and old is not None:
             return self._requoted(text, old)
         return text
@@ -120,7 +120,7 @@ class Fresh(Base):
         if term.head == "Expr" and term.children[0].head == "Constant":
             text = unparse(Term("Module", (Term(LIST, (stub,)), Term(LIST))))
         else:
-            text = unparsed(stub)
+            text = lean(unparsed(stub), stub)
         text = self._fitting(text).strip("\n")
         if not blocks:
             return filled(self._indented(text.encode(), b"", indent).decode(), pieces).encode()

@@ -2,6 +2,7 @@
 
 from __future__ import annotations
 
+import ast
 import re
 from collections.abc import Sequence
 from itertools import accumulate
@@ -12,7 +13,8 @@ from ..terms import LIST, Term, string
 from .edits import EXPRESSIONS, LOAD, NONE, PASS, PATTERNS, STATEMENTS, Cannot, same_tree
 from .tokens import BRACKETS
 
-
+# The most brackets of a new text that are tried to be left out.
+MOST_PAIRS: Final = 8
 STRINGS: Final = re.compile(r"""('''|\"\"\"|'|")(?:\\.|(?!\1).)*\1""", re.DOTALL)
 
 
@@ -29,6 +31,41 @@ def unparsed(term: Term) -> str:
     if term.head in ("NamedExpr", "Yield", "YieldFrom") and text.startswith("("):
         return text[1:-1]
     return text
+
+
+# The text of a node that is made anew, without the brackets around operations that the parse does without. Of many none are tried.
+def lean(text: str, term: Term) -> str:
+    pairs = _pairs(text)
+    if len(pairs) > MOST_PAIRS or (term.head not in EXPRESSIONS and term.head not in STATEMENTS):
+        return text
+    signs = list(text)
+    for first, last in reversed(pairs):
+        without = [*signs[:first], " ", *signs[first + 1 : last], " ", *signs[last + 1 :]]
+        if _is_operation(text[first + 1 : last]) and _spells("".join(without), term):
+            signs[first] = signs[last] = ""
+    return "".join(signs)
+
+
+# The brackets of a text that aren't those of calls.
+def _pairs(text: str) -> list[tuple[int, int]]:
+    found: list[tuple[int, int]] = []
+    waiting: list[int] = []
+    for at, sign in enumerate(STRINGS.sub(lambda it: "_" * len(it.group()), text)):
+        if sign == "(":
+            waiting.append(at)
+        elif sign == ")" and waiting:
+            first = waiting.pop()
+            if not re.match(r"[\w)\]}]", text[first - 1 : first]):
+                found.append((first, at))
+    return sorted(found)
+
+
+def _is_operation(text: str) -> bool:
+    try:
+        [found] = parse(text.strip()).body
+    except (SyntaxError, ValueError):
+        return False
+    return isinstance(found, ast.Expr) and isinstance(found.value, (ast.UnaryOp, ast.BinOp, ast.Compare))
 
 
 def name_of(text: str) -> Term:
@@ -166,7 +203,7 @@ def brackets(term: Term, shown: str, goes_on: bool = False) -> int:
 # Whether a text spells a statement or an expression.
 def _spells(text: str, term: Term) -> bool:
     try:
-        [found] = to_term(parse(text)).children[0].children
+        [found] = to_term(parse(text.strip())).children[0].children
     except (SyntaxError, ValueError):
         return False
     return same_tree(found if term.head in STATEMENTS else found.children[0], term)
