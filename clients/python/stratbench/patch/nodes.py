@@ -32,7 +32,7 @@ class Nodes(Joined):
     def _decorators(self, old: Term, new: Term) -> list[Edit]: ...
 
     # The edits that make the old node the new one, which stands in its place.
-    def _node(self, old: Term, new: Term) -> list[Edit]:
+    def _node(self, old: Term, new: Term, inside: bool = False) -> list[Edit]:
         if old is new:
             return []
         first, last = span(old)
@@ -44,7 +44,8 @@ class Nodes(Joined):
                 found = self._tried(lambda: self._display(old, new))
             if found is not None:
                 return found
-        return [Edit(first, last, self._fresh(new, self._frame(first), old, self.tokens.in_brackets(first)).encode())]
+        inside = inside or self.tokens.in_brackets(first)
+        return [Edit(first, last, self._fresh(new, self._frame(first), old, inside).encode())]
 
     # The edits within a node whose constructor stays.
     def _inside(self, old: Term, new: Term) -> list[Edit]:
@@ -126,19 +127,18 @@ class Nodes(Joined):
             raise Cannot
         if new.head not in CONSTRUCTORS or new.head == "None":
             raise Cannot
-        first, last = span(old)
-        edits = self._node(old, new)
         if new.head not in EXPRESSIONS and new.head not in PATTERNS:
+            return self._node(old, new)
+        first, last = span(old)
+        of_call = self._has_calls_brackets(place, old)
+        needed = new.head != "GeneratorExp" if of_call else self._needs_brackets(place, new, old)
+        edits = self._node(old, new, needed)
+        is_whole = len(edits) == 1 and (edits[0].first, edits[0].last) == (first, last)
+        if not needed or (new.head == "Tuple" and is_whole and edits[0].text.startswith(b"(") and not of_call):
             return edits
-        whole = len(edits) == 1 and (edits[0].first, edits[0].last) == (first, last)
-        if not whole:
-            if old.head in OPERATIONS and self._needs_brackets(place, new, old):
-                return [Edit(first, first, b"("), *edits, Edit(last, last, b")")]
-        elif self._has_calls_brackets(place, old) and new.head != "GeneratorExp":
+        if is_whole:
             return [Edit(first, last, b"(" + edits[0].text + b")")]
-        elif not (new.head == "Tuple" and edits[0].text.startswith(b"(")) and self._needs_brackets(place, new, old):
-            return [Edit(first, last, b"(" + edits[0].text + b")")]
-        return edits
+        return [Edit(first, first, b"("), *edits, Edit(last, last, b")")] if old.head in OPERATIONS else edits
 
     # Whether the brackets of a generator are those of the call of which it is the only argument.
     def _has_calls_brackets(self, place: Place, old: Term) -> bool:

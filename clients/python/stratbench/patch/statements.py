@@ -6,6 +6,7 @@ import tokenize
 from bisect import bisect_right
 from collections.abc import Sequence
 from functools import cached_property
+from typing import NamedTuple
 
 from ..python import Source
 from ..terms import LIST, Term
@@ -14,6 +15,26 @@ from .comments import Marks, Patch, staying
 from .edits import BLOCKS, DEFINITIONS, IMPORTS, PLACES, STATEMENTS, Cannot, Edit, aligned, field_of, span
 from .nodes import Nodes
 from .tokens import Token
+
+
+class Stretch(NamedTuple):
+    """Of a block a statement that stays, or what goes and comes between those that stay."""
+
+    goes: range
+    comes: range
+    stays: bool
+
+
+# The stretches of a block of so many statements, before and after, of which these stay.
+def _stretches(old: int, new: int, pairs: list[tuple[int, int]]) -> list[Stretch]:
+    found: list[Stretch] = []
+    goes = comes = 0
+    for at, other in [*pairs, (old, new)]:
+        if at > goes or other > comes:
+            found.append(Stretch(range(goes, at), range(comes, other), False))
+        found.append(Stretch(range(at, at + 1), range(other, other + 1), True))
+        goes, comes = at + 1, other + 1
+    return found[:-1]
 
 
 class Patcher(Nodes):
@@ -74,14 +95,40 @@ class Patcher(Nodes):
         front: list[Edit] = []
         changed: list[Edit] = []
         between: list[Edit] = []
-        pairs = self._unbroken(old, new, self._pairs(old, new))
+        pairs = self._pairs(old, new)
         self.staying.update(id(old[at]) for at, _ in pairs)
-        for at, other in pairs:
-            changed += self._statement(old[at], new[other], indent)
-        for (old_from, new_from), (old_to, new_to) in zip([(-1, -1), *pairs], [*pairs, (len(old), len(new))]):
-            edits = self._gap(old, old_from + 1, old_to, new[new_from + 1 : new_to], indent)
-            (between if old_from >= 0 else front).extend(edits)
+        for line in self._lines(old, _stretches(len(old), len(new), pairs)):
+            first, last = line[0].goes.start, line[-1].goes.stop
+            if self._is_broken(old, new, line):
+                self.staying.difference_update(id(it) for it in old[first:last])
+                changed += self._replaced(old, first, last, new[line[0].comes.start : line[-1].comes.stop], indent)
+                continue
+            for it in line:
+                if it.stays:
+                    changed += self._statement(old[it.goes.start], new[it.comes.start], indent)
+                else:
+                    edits = self._gap(old, it.goes.start, it.goes.stop, new[it.comes.start : it.comes.stop], indent)
+                    (between if it.goes.start else front).extend(edits)
         return front + changed + between
+
+    # The stretches of a block by lines of the source.
+    def _lines(self, old: tuple[Term, ...], stretches: list[Stretch]) -> list[list[Stretch]]:
+        in_head = bool(old) and not self._leads(old[0])
+        lines: list[list[Stretch]] = []
+        for it in stretches:
+            at = it.goes.start
+            if lines and (in_head or (at < len(old) and not self._leads(old[at]))):
+                lines[-1].append(it)
+            else:
+                lines.append([it])
+        return lines
+
+    # Whether a line is broken up, since a statement with a block comes into it beside others, or after the head of its block.
+    def _is_broken(self, old: tuple[Term, ...], new: tuple[Term, ...], line: list[Stretch]) -> bool:
+        goes = old[line[0].goes.start : line[-1].goes.stop]
+        if not goes or not any(new[at].head in BLOCKS for it in line if not it.stays for at in it.comes):
+            return False
+        return len(line) > 1 or not self._leads(goes[0]) or any(self._is_followed(it) for it in goes)
 
     # The old and the new places of the statements that are the same ones, in order.
     def _pairs(self, old: tuple[Term, ...], new: tuple[Term, ...]) -> list[tuple[int, int]]:
@@ -111,36 +158,10 @@ class Patcher(Nodes):
                 left = [it for it in left if it > at]
         return found
 
-    # The pairs but for those in lines that are broken up, since a statement with a block has to be on lines of its own.
-    def _unbroken(self, old: tuple[Term, ...], new: tuple[Term, ...], pairs: list[tuple[int, int]]) -> list[tuple[int, int]]:
-        broken: set[int] = set()
-        for (old_from, new_from), (old_to, new_to) in zip([(-1, -1), *pairs], [*pairs, (len(old), len(new))]):
-            if any(it.head in BLOCKS for it in new[new_from + 1 : new_to]):
-                if old_to == old_from + 1:
-                    # between two statements of one line, or before or after those of a block that is in the line of its head
-                    if old_to < len(old) and not self._leads(old[old_to]):
-                        broken.update(self._line_of(old, old_to))
-                    elif old_to == len(old) > 0 and not self._leads(old[0]):
-                        broken.update(self._line_of(old, 0))
-                for at in range(old_from + 1, old_to):
-                    line = self._line_of(old, at)
-                    if len(line) > 1 or not self._leads(old[at]):
-                        broken.update(line)
-        return [it for it in pairs if it[0] not in broken] if broken else pairs
-
-    # The statements in the line of one.
-    def _line_of(self, old: tuple[Term, ...], at: int) -> range:
-        first, last = at, at + 1
-        while first > 0 and not self._leads(old[first]):
-            first -= 1
-        while last < len(old) and not self._leads(old[last]):
-            last += 1
-        return range(first, last)
-
     # The edits where the statements from one place to another go, and others come. What has parts of an old one takes its
     # place.
     def _gap(self, old: tuple[Term, ...], first: int, last: int, comes: tuple[Term, ...], indent: bytes) -> list[Edit]:
-        if first == last or not comes or self._is_broken(old, first, last, comes):
+        if first == last or not comes:
             return self._replaced(old, first, last, comes, indent)
         units: list[tuple[int | None, list[Term]]] = []
         begins = [self._begin(it) for it in old[first:last]]
@@ -179,12 +200,6 @@ class Patcher(Nodes):
             end += 1
         return end
 
-    # Whether a line of several statements, or in the line of a block's head, is broken up.
-    def _is_broken(self, old: tuple[Term, ...], first: int, last: int, comes: tuple[Term, ...]) -> bool:
-        return any(it.head in BLOCKS for it in comes) and any(
-            not self._leads(it) or self._is_followed(it) for it in old[first:last]
-        )
-
     # The one of some old statements, which begin at these places, that an old node is in.
     def _owner(self, old: tuple[Term, ...], places: range, begins: list[int], part: Term) -> int | None:
         place = span(part)[0]
@@ -217,6 +232,9 @@ class Patcher(Nodes):
         begin = self._leading_comments(begin, self.carried)
         end = self._end_with_comments(old[last - 1])
         text = self._rendered(comes, indent)
+        semicolon = self.tokens.after(end)
+        if comes[-1].head in BLOCKS and self.tokens.text_at(semicolon) == ";":
+            end = self.tokens.tokens[semicolon].last
         line = self._line_start(begin)
         above = self._room(comes[0], indent) - self._blanks_before(line)[0] if first else 0
         if above > 0:
