@@ -56,8 +56,8 @@ class Base(ABC):
         self.new = self._shared(new, self.old)
         # whether changed statements are made anew as a whole
         self.plain = False
-        # the comments that go with statements to other places: by the pass before, and so far by this one, with the statements; and the
-        # statements that stay where they are
+        # the comments that go with statements to other places: by the pass before, and so far by this one, with the ids of the statements or
+        # blocks; and those of these that stay where they are
         self.carried: set[int] = set()
         self.carrying: list[tuple[int, int]] = []
         self.staying: set[int] = set()

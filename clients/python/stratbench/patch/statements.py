@@ -47,7 +47,7 @@ class Patcher(Nodes):
         self.carried, self.carrying, self.staying = set(), [], set()
         found = self._block(self.old, self.new, "body", b"")
         if self.carrying:
-            # once more, now that the comments that go elsewhere are known
+            # once more, now that the comments that go elsewhere are known, and what stays
             self.carried = {comment for comment, statement in self.carrying if statement not in self.staying}
             found = self._block(self.old, self.new, "body", b"")
         return sorted(found, key=lambda it: (it.first, it.last))
@@ -187,18 +187,23 @@ class Patcher(Nodes):
 
     # Where the statements from one on end that are all in these new ones.
     def _held(self, old: tuple[Term, ...], first: int, last: int, new: list[Term]) -> int:
-        held: set[int] = set()
-        waiting = list(new)
-        while waiting:
-            it = waiting.pop()
-            if it.head in STATEMENTS:
-                held.add(id(self._was(it)))
-            if it.head in BLOCKS:
-                waiting += [inner for child in it.children if child.head == LIST for inner in child.children]
+        held = self._all_in(new)
         end = first + 1
         while end < last and id(old[end]) in held:
             end += 1
         return end
+
+    # The old statements, by their ids, that are in these new ones and in their blocks.
+    def _all_in(self, new: Sequence[Term]) -> set[int]:
+        found: set[int] = set()
+        waiting = list(new)
+        while waiting:
+            it = waiting.pop()
+            if it.head in STATEMENTS:
+                found.add(id(self._was(it)))
+            if it.head in BLOCKS:
+                waiting += [inner for child in it.children if child.head == LIST for inner in child.children]
+        return found
 
     # The one of some old statements, which begin at these places, that an old node is in.
     def _owner(self, old: tuple[Term, ...], places: range, begins: list[int], part: Term) -> int | None:
@@ -229,7 +234,7 @@ class Patcher(Nodes):
             if self._leads(old[stop]) and not self._all_goes(self._statement_end(old[stop - 1])[1], self._begin(old[stop])):
                 # line by line, so that the comments between stay
                 return self._replaced(old, first, stop, comes, indent) + self._deleted(old, stop, last)
-        begin = self._leading_comments(begin, self.carried)
+        begin = self._begin_with_comments(old[first])
         end = self._end_with_comments(old[last - 1])
         text = self._rendered(comes, indent)
         semicolon = self.tokens.after(end)
@@ -254,7 +259,7 @@ class Patcher(Nodes):
             if self._is_followed(old[stop - 1]):
                 edits.append(Edit(begin, self._begin(old[stop]), b""))
             elif self._leads(old[first]):
-                begin = self._line_start(self._leading_comments(begin, self.carried))
+                begin = self._line_start(self._begin_with_comments(old[first]))
                 end = max(self._statement_end(old[stop - 1])[1], self._line_end(self._end_with_comments(old[stop - 1]))[1])
                 if lines and self._all_goes(lines[-1][1], begin):
                     begin, _ = lines.pop()
@@ -413,8 +418,12 @@ class Patcher(Nodes):
             edits = []
         for old, new in chunk:
             edits += self._statement(old, new, before)
+        heads: list[Token] = []
         if self._leads(chunk[0][0]):
             begin = self._leading_comments(begin)
+            if is_whole and self._begins_block(chunk[0][0]):
+                heads = self._heads(self.homes[id(chunk[0][0])][0])
+                begin = self._after_head(begin)
         follows = self._comment_after(end)
         if follows is not None:
             end = follows.last
@@ -423,11 +432,41 @@ class Patcher(Nodes):
         begins, ends = [self._begin(it) for it, _ in chunk], [span(it)[1] for it, _ in chunk]
         for place, until, statement in zip([begin, *ends], [*begins, end], [*chunk, chunk[-1]]):
             self.carrying.extend((it.first, id(statement[0])) for it in self.tokens.comments_between(place, until))
+        self.carrying.extend((it.first, id(self.homes[id(chunk[0][0])][0])) for it in heads)
+        head = b"".join(self._copied(it.first, it.last, []) + self.newline + indent for it in heads)
         # an edit of the first or the last line may be one of the whole line
         first, last = min([begin, *(it.first for it in edits)]), max([end, *(it.last for it in edits)])
         text = self._copied(first, last, edits)
         text = text.lstrip(b" \t\f") if first < begin else text
-        return self._indented(text.rstrip(b"\r\n") if last > end else text, before, indent)
+        return head + self._indented(text.rstrip(b"\r\n") if last > end else text, before, indent)
+
+    # Whether a statement is the first of a block with an indentation of its own.
+    def _begins_block(self, statement: Term) -> bool:
+        block, at = self.homes[id(statement)]
+        return at == 0 and block is not field_of(self.old, "body") and not self.text[span(statement)[0] :].startswith(b"elif")
+
+    # Where the line of a block's head ends, before its first statement.
+    def _head_end(self, begin: int) -> int:
+        return self._line_end(self.tokens.tokens[self.tokens.before(begin) - 1].last)[1]
+
+    # Where the comments begin between the head of a block and its first statement, if all are among these.
+    def _after_head(self, begin: int, some: set[int] | None = None) -> int:
+        inside = self.tokens.comments_between(self._head_end(begin), begin)
+        return inside[0].first if inside and (some is None or all(it.first in some for it in inside)) else begin
+
+    # The comments of a block's `else` or `finally`, above it or in its line, which go with its statements.
+    def _heads(self, block: Term) -> list[Token]:
+        begin = self._begin(block.children[0])
+        word = self.tokens.tokens[self.tokens.before(begin) - 2]
+        if word.text not in ("else", "finally") or id(block) in self.staying:
+            return []
+        above = self._leading_comments(word.first)
+        return [*self.tokens.comments_between(above, word.first), *self.tokens.comments_between(word.first, self._head_end(begin))]
+
+    # Where the comments begin that go elsewhere with a statement, or the statement.
+    def _begin_with_comments(self, statement: Term) -> int:
+        begin = self._leading_comments(self._begin(statement), self.carried)
+        return self._after_head(begin, self.carried) if self._leads(statement) and self._begins_block(statement) else begin
 
     # The edits for a block of a statement, with its `else` or `finally`.
     def _clause(self, old: Term, new: Term, name: str) -> list[Edit]:
@@ -454,6 +493,9 @@ class Patcher(Nodes):
             end = self._tail(self._statement_end(one[-1])[0], outer, False)
             return [Edit(self._line_start(start), self._line_end(end)[1], b"")]
         if not is_elif:
+            if self._all_in(two) & {id(it) for it in one}:
+                # what is said of the block is said of them
+                self.staying.add(id(field_of(old, name)))
             return self._block(old, new, name, inner)
         if len(two) == 1 and two[0].head == "If" and self._origin(two[0]) in (None, one[0]) and not self.plain:
             found = self._tried(lambda: self._inside(one[0], two[0]))
