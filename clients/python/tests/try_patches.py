@@ -77,7 +77,7 @@ CASES = [
     ("a tuple", "f(pair)\nx = pair\nfor i in pair: pass\n", EVERY % "Pair", "f((a, b))\nx = (a, b)\nfor i in (a, b): pass\n"),
     ("operands that are old keep their text", "x = swap(a+b,  c  .d )\ny = swap(1, lambda: 2)\n", EVERY % "Swap", "x = c  .d * (a+b)\ny = (lambda: 2) * 1\n"),
     ("an operand over lines", "x = id(a +\n       b)\ny = id('a'\n  'b').c\n", EVERY % "Unwrap", "x = (a +\n       b)\ny = ('a'\n  'b').c\n"),
-    ("a generator", "x = id(y for y in z)\nf(id((y for y in z)))\n", EVERY % "Unwrap", "x = (y for y in z)\nf((y for y in z))\n"),
+    ("a generator", "x = id(y for y in z)\nf(id((y for y in z)))\n", EVERY % "Unwrap", "x = (y for y in z)\nf(y for y in z)\n"),
     ("a number before a dot", "id(1).real\nid(0x1F).real\n", EVERY % "Unwrap", "(1).real\n(0x1F).real\n"),
     ("a negative number", "x = 1 ** 2\n", EVERY % "Negative", "x = (-1) ** 2\n"),
     ("a walrus", "if (n := 1) > 0: pass\n", EVERY % "Grow", "if (n := 100) > 0: pass\n"),

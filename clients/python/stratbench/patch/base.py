@@ -13,7 +13,7 @@ from typing import Callable, NamedTuple
 from ..python import CONSTRUCTORS, Source, position
 from ..terms import LIST, Term
 from .comments import Marks
-from .edits import DEFINITIONS, DISPLAYS, Cannot, Edit, apply_edits, field_of, normal, span
+from .edits import COMPREHENSIONS, DEFINITIONS, DISPLAYS, Cannot, Edit, apply_edits, field_of, normal, parts_of, span
 from .former import Former
 from .tokens import BRACKETS, Token, Tokens, inner_lines
 
@@ -39,15 +39,18 @@ class Base(ABC):
         self.old = source.term
         self.origins: dict[tuple[int, int, object], Term] = {}
         self.homes: dict[int, tuple[Term, int]] = {}
-        self.displays: dict[int, Term] = {}
+        # the literals and comprehensions that nodes are parts of
+        self.owners: dict[int, Term] = {}
         waiting = [self.old]
         while waiting:
             it = waiting.pop()
             place = position(it)
             if place is not None and it.head in CONSTRUCTORS:
                 self.origins[(*place, it.head)] = it
-            if it.head in DISPLAYS and it.children[0].children:
-                self.displays[id(it.children[0])] = it
+            if it.head in DISPLAYS:
+                self.owners.update((id(child), it) for child in it.children[0].children)
+            elif it.head in COMPREHENSIONS:
+                self.owners.update((id(child), it) for child in parts_of(it))
             if it.head == LIST:
                 for at, child in enumerate(it.children):
                     if child.children or child.annotations:

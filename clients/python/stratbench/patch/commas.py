@@ -8,7 +8,7 @@ from typing import Callable, NamedTuple, Tuple, Union
 from ..python import position
 from ..terms import LIST, Term, string
 from .base import Place
-from .edits import DISPLAYS, NONE, PASS, Cannot, Edit, aligned, field_of, is_same, span
+from .edits import COMPREHENSIONS, DISPLAYS, NONE, PASS, Cannot, Edit, aligned, field_of, is_same, span
 from .fresh import Fresh
 from .tokens import BRACKETS
 
@@ -162,8 +162,10 @@ class Commas(Fresh):
         comma = self.tokens.text_at(end) == "," and self.tokens.tokens[end].last <= inside[1]
         return [Edit(old[first].first, self.tokens.tokens[end].last if comma else old[last].last, b"")]
 
-    # The edits that make a list, a tuple or a set another of these, with its elements.
+    # The edits that make a list, a tuple or a set another of these, with its elements, or a comprehension another.
     def _display(self, old: Term, new: Term) -> list[Edit]:
+        if old.head in COMPREHENSIONS:
+            return self._comprehension(old, new)
         before, after = old.children[0].children, new.children[0].children
         first, last = span(old)
         inside = self._inside_of(old)
@@ -177,6 +179,13 @@ class Commas(Fresh):
             comma = []
         items = self._items(Place(old, new), inside, elements, [(it,) for it in after])
         return [Edit(first, inside[0], opens), *items, *comma, Edit(inside[1], last, closes)]
+
+    # The same of comprehensions.
+    def _comprehension(self, old: Term, new: Term) -> list[Edit]:
+        first, last = span(old)
+        opens, closes = COMPREHENSIONS[str(new.head)]
+        edits = self._fields(Place(old, new), old, Term(old.head, new.children))
+        return [Edit(first, first + 1, opens), *edits, Edit(last - 1, last, closes)]
 
     # The arguments of a call, where they are others than before in number or kind.
     def _call(self, place: Place, old: Term, new: Term) -> list[Edit] | None:

@@ -35,6 +35,8 @@ EXPRESSIONS: Final = frozenset(it.name for it in CONSTRUCTORS.values() if it.sor
 PATTERNS: Final = frozenset(it.name for it in CONSTRUCTORS.values() if it.sort == "pattern")
 # Literals that are elements in brackets.
 DISPLAYS: Final = {"List": (b"[", b"]"), "Tuple": (b"(", b")"), "Set": (b"{", b"}")}
+# The same of comprehensions.
+COMPREHENSIONS: Final = {"ListComp": (b"[", b"]"), "GeneratorExp": (b"(", b")"), "SetComp": (b"{", b"}")}
 # Expressions that go on as far as they can.
 OPEN: Final = ("Lambda", "IfExp", "NamedExpr", "Yield", "YieldFrom")
 PLACES: Final = {it.name: {field.name: at for at, field in enumerate(it.fields)} for it in CONSTRUCTORS.values()}
@@ -80,6 +82,13 @@ def field_of(term: Term, name: str) -> Term:
 def with_field(term: Term, name: str, value: Term) -> Term:
     at = PLACES[str(term.head)][name]
     return Term(term.head, (*term.children[:at], value, *term.children[at + 1 :]), term.annotations)
+
+
+def parts_of(term: Term) -> tuple[Term, ...]:
+    """Returns the nodes by which a literal, or a comprehension, is known: the elements, or what comes first in it."""
+    if term.head in DISPLAYS:
+        return term.children[0].children
+    return (term.children[0], *(field_of(it, "iter") for it in term.children[1].children[:1]))
 
 
 def span(term: Term) -> tuple[int, int]:

@@ -9,7 +9,7 @@ from abc import abstractmethod
 from ..python import CONSTRUCTORS, parse, unparse
 from ..terms import LIST, NoTerm, Term, string
 from .base import Base
-from .edits import BLOCKS, DISPLAYS, LOAD, STATEMENTS, Cannot, Edit, span
+from .edits import BLOCKS, COMPREHENSIONS, DISPLAYS, LOAD, STATEMENTS, Cannot, Edit, parts_of, span
 from .markers import STRINGS, Piece, closed, filled, lean, marker_of, unparsed
 
 
@@ -53,14 +53,14 @@ class Fresh(Base):
             return self._requoted(text, old)
         return text
 
-    # The text of a list, a tuple or a set of which elements are those of an old one that is gone: that one's, with other brackets.
+    # The text of a literal, or of a comprehension, of which parts are those of an old one that is gone: that one's, with other brackets.
     def _display_text(self, term: Term, indent: bytes) -> str | None:
-        if term.head not in DISPLAYS:
+        heads = next((it for it in (DISPLAYS, COMPREHENSIONS) if term.head in it), None)
+        if heads is None:
             return None
-        elements = (self._origin(it) for it in term.children[0].children)
-        home = next((self.homes.get(id(it)) for it in elements if it is not None), None)
-        old = self.displays.get(id(home[0])) if home else None
-        if old is None or self.former.is_present(old):
+        parts = (self._origin(it) for it in parts_of(term))
+        old = next((self.owners.get(id(it)) for it in parts if it is not None), None)
+        if old is None or old.head not in heads or self.former.is_present(old):
             return None
         first, last = span(old)
         try:

@@ -10,7 +10,7 @@ from ..terms import LIST, Term, string
 from .base import Place
 from .commas import same_shape
 from .edits import (
-    BLOCKS, COMMAS, DEFINITIONS, DISPLAYS, EXPRESSIONS, LOAD, NONE, OPEN, OPERATIONS, OPERATORS, PATTERNS, Cannot, Edit, field_of,
+    BLOCKS, COMMAS, COMPREHENSIONS, DEFINITIONS, DISPLAYS, EXPRESSIONS, LOAD, NONE, OPEN, OPERATIONS, OPERATORS, PATTERNS, Cannot, Edit, field_of,
     is_same, operands, span,
 )  # fmt: skip
 from .fstrings import Joined
@@ -40,7 +40,7 @@ class Nodes(Joined):
             found = None
             if old.head == new.head:
                 found = self._tried(lambda: self._inside(old, new))
-            elif old.head in DISPLAYS and new.head in DISPLAYS:
+            elif any(old.head in it and new.head in it for it in (DISPLAYS, COMPREHENSIONS)):
                 found = self._tried(lambda: self._display(old, new))
             if found is not None:
                 return found
@@ -134,11 +134,24 @@ class Nodes(Joined):
         needed = new.head != "GeneratorExp" if of_call else self._needs_brackets(place, new, old)
         edits = self._node(old, new, needed)
         is_whole = len(edits) == 1 and (edits[0].first, edits[0].last) == (first, last)
+        if new.head == "GeneratorExp" and old.head != new.head and self._is_alone(place, old):
+            return _without_brackets(edits)
         if not needed or (new.head == "Tuple" and is_whole and edits[0].text.startswith(b"(") and not of_call):
             return edits
         if is_whole:
             return [Edit(first, last, b"(" + edits[0].text + b")")]
-        return [Edit(first, first, b"("), *edits, Edit(last, last, b")")] if old.head in OPERATIONS else edits
+        if of_call or old.head in OPERATIONS:
+            return [Edit(first, first, b"("), *edits, Edit(last, last, b")")]
+        return edits
+
+    # Whether a node is all that is between the brackets of a call, before and after.
+    def _is_alone(self, place: Place, old: Term) -> bool:
+        if place.new.head != "Call" or place.path[:1] != (1,) or len(place.new.children[1].children) + len(place.new.children[2].children) != 1:
+            return False
+        first, last = span(old)
+        before, after = self.tokens.before(first), self.tokens.after(last)
+        opens = self.tokens.after(self._around(span(place.old), place.old.children[0])[1])
+        return before == opens and self.tokens.text_at(after) == ")"
 
     # Whether the brackets of a generator are those of the call of which it is the only argument.
     def _has_calls_brackets(self, place: Place, old: Term) -> bool:
@@ -270,3 +283,10 @@ class Nodes(Joined):
 def _binding(term: Term) -> tuple[object, object]:
     at = OPERATIONS.get(str(term.head))
     return term.head, None if at is None else term.children[at].head
+
+
+# The edits of what is in brackets without these.
+def _without_brackets(edits: list[Edit]) -> list[Edit]:
+    if len(edits) == 1:
+        return [edits[0]._replace(text=edits[0].text[1:-1])]
+    return [edits[0]._replace(text=edits[0].text[1:]), *edits[1:-1], edits[-1]._replace(text=edits[-1].text[:-1])]
