@@ -17,7 +17,7 @@ from ..python import Source, deep, from_term, parse, to_term
 from ..terms import NoTerm, Term
 from .comments import Patch
 from .edits import Cannot, Edit, Unwritable, apply_edits, same_tree
-from .statements import Patcher
+from .patcher import Patcher
 
 __all__ = ["Edit", "Patch", "Unwritable", "apply_edits", "patch", "patch_of", "patched"]
 

@@ -1,20 +1,14 @@
-"""Statements: blocks in which they come, go, move and change."""
+"""Blocks in which statements come, go, move and change."""
 
 from __future__ import annotations
 
-import tokenize
 from bisect import bisect_right
 from collections.abc import Sequence
-from functools import cached_property
 from typing import NamedTuple
 
-from ..python import Source
 from ..terms import LIST, Term
-from .base import Place
-from .comments import Marks, Patch, staying
-from .edits import BLOCKS, DEFINITIONS, IMPORTS, PLACES, STATEMENTS, Cannot, Edit, aligned, field_of, span
-from .nodes import Nodes
-from .tokens import Token
+from .edits import BLOCKS, IMPORTS, STATEMENTS, Cannot, Edit, aligned, field_of, span
+from .moved import Moved
 
 
 class Stretch(NamedTuple):
@@ -37,44 +31,8 @@ def _stretches(old: int, new: int, pairs: list[tuple[int, int]]) -> list[Stretch
     return found[:-1]
 
 
-class Patcher(Nodes):
-    """The edits that make a source spell a new tree."""
-
-    def edits(self) -> list[Edit]:
-        """Returns the edits, in order, with marks in the comments of what is copied."""
-        if self.old is self.new:
-            return []
-        self.carried, self.carrying, self.staying = set(), [], set()
-        found = self._block(self.old, self.new, "body", b"")
-        if self.carrying:
-            # once more, now that the comments that go elsewhere are known, and what stays
-            self.carried = {comment for comment, statement in self.carrying if statement not in self.staying}
-            found = self._block(self.old, self.new, "body", b"")
-        return sorted(found, key=lambda it: (it.first, it.last))
-
-    def patch(self) -> Patch:
-        """Returns the edits, and the comments that are lost."""
-        edits = self.edits()
-        if not edits:
-            return Patch([], [])
-        there = self.marks.noted(edits) & self.carried
-        left = [self._away(it) for it in staying(self.tokens.comments, edits) if it.first in there]
-        if left:
-            edits = sorted([*edits, *left], key=lambda it: (it.first, it.last))
-        return self.marks.resolved(edits, self.tokens.comments)
-
-    # The edit without a comment, and without its line where it is alone there.
-    def _away(self, comment: Token) -> Edit:
-        if comment.first in self.tokens.comment_lines:
-            return Edit(self._line_start(comment.first), self._line_end(comment.first)[1], b"")
-        return Edit(self.tokens.tokens[self.tokens.before(comment.first)].last, comment.last, b"")
-
-    def _expression(self, source: Source, new: Term, offset: int) -> list[Edit]:
-        source.encoding = self.source.encoding
-        try:
-            return Patcher(source, new, Marks(b"", self.marks.offset + offset, self.marks.sign)).edits()
-        except Cannot:
-            return []
+class Statements(Moved):
+    """The edits of blocks."""
 
     # The edits within a statement, or those that make it anew.
     def _statement(self, old: Term, new: Term, indent: bytes) -> list[Edit]:
@@ -286,26 +244,6 @@ class Patcher(Nodes):
             end = after[min(before, len(after)) - 1 if begin else -1]
         return Edit(begin, end, b"")
 
-    # Where a statement ends with the comments after it that go elsewhere. Those inside one of several lines with blocks go with it.
-    def _end_with_comments(self, statement: Term) -> int:
-        end = span(statement)[1]
-        lines = statement.head in BLOCKS and self._line_start(self._begin(statement)) != self._line_start(end)
-        follows = self._comment_after(end)
-        if follows is not None and (lines or follows.first in self.carried):
-            end = follows.last
-        elif lines and not self.text[end : self._line_end(end)[0]].strip(b" \t;"):
-            end = self._line_end(end)[0]
-        if not self._leads(statement):
-            return end
-        indent = self._indent(self._begin(statement))
-        end = self._tail(end, indent, False, None if lines else self.carried)
-        return self._tail(end, indent, True, self.carried) if self._ends_block(statement) else end
-
-    # Whether a statement is the last of a block with an indentation of its own. Comments after it may be about the block.
-    def _ends_block(self, statement: Term) -> bool:
-        block, at = self.homes[id(statement)]
-        return at == len(block.children) - 1 and not self.text[span(statement)[0] :].startswith(b"elif")
-
     # The edit that puts lines after that of a statement, and after the comments there that are deeper than an indentation.
     def _line_after(self, statement: Term, lines: bytes, indent: bytes) -> Edit:
         end, after = self._line_end(self._tail(self._statement_end(statement)[0], indent, False))
@@ -351,245 +289,3 @@ class Patcher(Nodes):
             room = max(self._room(before, indent), self._room(comes[0], indent))
         below = max(0, self._room(comes[-1], indent) - there) if at < len(old) else 0
         return edit._replace(text=self.newline * room + edit.text + self.newline * below)
-
-    # How many blank lines are before a definition, for one in a module and for one in a block.
-    @cached_property
-    def _usual_room(self) -> tuple[int, int]:
-        found: tuple[list[int], list[int]] = ([], [])
-        for block, at in self.homes.values():
-            if at and block.children[at].head in DEFINITIONS:
-                found[block is not field_of(self.old, "body")].append(self._room_above(block.children[at]))
-        one, two = (max(it, key=it.count) if it else usual for it, usual in zip(found, (2, 1)))
-        return one, two
-
-    def _room_above(self, statement: Term) -> int:
-        return self._blanks_before(self._line_start(self._leading_comments(self._begin(statement))))[0]
-
-    # How many blank lines a statement has around it: a definition as many as were before it.
-    def _room(self, statement: Term, indent: bytes) -> int:
-        if statement.head not in DEFINITIONS:
-            return 0
-        origin = self._was(statement)
-        home = self.homes.get(id(origin)) if origin is not None else None
-        if origin is None or home is None:
-            return self._usual_room[bool(indent)]
-        if home[1]:
-            return self._room_above(origin)
-        return len(self._blanks_after(self._line_end(self._end_with_comments(origin))[1])) if len(home[0].children) > 1 else 0
-
-    # The text of statements, without the indentation of its first line. Neighbours that were neighbours before keep what is
-    # between them, and the comments before and after them come along.
-    def _rendered(self, new: Sequence[Term], indent: bytes) -> bytes:
-        texts: list[bytes] = []
-        at = 0
-        while at < len(new):
-            if at:
-                room = max(self._room(new[at - 1], indent), self._room(new[at], indent))
-                texts.append(self.newline * (1 + room) + indent)
-            origin = self._was(new[at])
-            home = self.homes.get(id(origin)) if origin is not None else None
-            if origin is None or home is None or self.plain:
-                texts.append(self._fresh_statement(new[at], indent))
-                at += 1
-                continue
-            chunk = [(origin, new[at])]
-            while at + len(chunk) < len(new):
-                following = self._was(new[at + len(chunk)])
-                if following is None or self.homes.get(id(following)) != (home[0], home[1] + len(chunk)):
-                    break
-                chunk.append((following, new[at + len(chunk)]))
-            texts.append(self._chunk(chunk, indent, self._is_whole(home[0], new)))
-            at += len(chunk)
-        return b"".join(texts)
-
-    # Whether all statements of a block are among others. Then the comments at its end go with the last one.
-    def _is_whole(self, block: Term, new: Sequence[Term]) -> bool:
-        if block is field_of(self.old, "body"):
-            return False
-        there = {id(self._was(it)) for it in new}
-        return all(id(it) in there for it in block.children)
-
-    def _chunk(self, chunk: list[tuple[Term, Term]], indent: bytes, is_whole: bool) -> bytes:
-        begin, end = self._begin(chunk[0][0]), span(chunk[-1][0])[1]
-        before = self._indent(begin)
-        if self.text[begin:].startswith(b"elif") and chunk[0][0].head == "If":
-            edits = [Edit(begin, begin + 2, b"")]
-        else:
-            edits = []
-        for old, new in chunk:
-            edits += self._statement(old, new, before)
-        heads: list[Token] = []
-        if self._leads(chunk[0][0]):
-            begin = self._leading_comments(begin)
-            if is_whole and self._begins_block(chunk[0][0]):
-                heads = self._heads(self.homes[id(chunk[0][0])][0])
-                begin = self._after_head(begin)
-        follows = self._comment_after(end)
-        if follows is not None:
-            end = follows.last
-        if self._leads(chunk[-1][0]):
-            end = self._tail(end, before, is_whole and self._ends_block(chunk[-1][0]))
-        begins, ends = [self._begin(it) for it, _ in chunk], [span(it)[1] for it, _ in chunk]
-        for place, until, statement in zip([begin, *ends], [*begins, end], [*chunk, chunk[-1]]):
-            self.carrying.extend((it.first, id(statement[0])) for it in self.tokens.comments_between(place, until))
-        self.carrying.extend((it.first, id(self.homes[id(chunk[0][0])][0])) for it in heads)
-        head = b"".join(self._copied(it.first, it.last, []) + self.newline + indent for it in heads)
-        # an edit of the first or the last line may be one of the whole line
-        first, last = min([begin, *(it.first for it in edits)]), max([end, *(it.last for it in edits)])
-        text = self._copied(first, last, edits)
-        text = text.lstrip(b" \t\f") if first < begin else text
-        return head + self._indented(text.rstrip(b"\r\n") if last > end else text, before, indent)
-
-    # Whether a statement is the first of a block with an indentation of its own.
-    def _begins_block(self, statement: Term) -> bool:
-        block, at = self.homes[id(statement)]
-        return at == 0 and block is not field_of(self.old, "body") and not self.text[span(statement)[0] :].startswith(b"elif")
-
-    # Where the line of a block's head ends, before its first statement.
-    def _head_end(self, begin: int) -> int:
-        return self._line_end(self.tokens.tokens[self.tokens.before(begin) - 1].last)[1]
-
-    # Where the comments begin between the head of a block and its first statement, if all are among these.
-    def _after_head(self, begin: int, some: set[int] | None = None) -> int:
-        inside = self.tokens.comments_between(self._head_end(begin), begin)
-        return inside[0].first if inside and (some is None or all(it.first in some for it in inside)) else begin
-
-    # The comments of a block's `else` or `finally`, above it or in its line, which go with its statements.
-    def _heads(self, block: Term) -> list[Token]:
-        begin = self._begin(block.children[0])
-        word = self.tokens.tokens[self.tokens.before(begin) - 2]
-        if word.text not in ("else", "finally") or id(block) in self.staying:
-            return []
-        above = self._leading_comments(word.first)
-        return [*self.tokens.comments_between(above, word.first), *self.tokens.comments_between(word.first, self._head_end(begin))]
-
-    # Where the comments begin that go elsewhere with a statement, or the statement.
-    def _begin_with_comments(self, statement: Term) -> int:
-        begin = self._leading_comments(self._begin(statement), self.carried)
-        return self._after_head(begin, self.carried) if self._leads(statement) and self._begins_block(statement) else begin
-
-    # The edits for a block of a statement, with its `else` or `finally`.
-    def _clause(self, old: Term, new: Term, name: str) -> list[Edit]:
-        one, two = field_of(old, name).children, field_of(new, name).children
-        outer = self._indent(self._case(old) if old.head == "match_case" else span(old)[0])
-        inner = outer + self.tokens.unit
-        if name == "body":
-            return self._block(old, new, name, inner)
-        word = b"finally" if name == "finalbody" else b"else"
-        if not one:
-            return [self._line_after(self._last_before(old, name), outer + self._alternative(two, outer, inner, word), outer)]
-        begin, end = self._begin(one[0]), span(one[-1])[1]
-        is_elif = old.head == "If" and len(one) == 1 and one[0].head == "If" and self.text[begin:].startswith(b"elif")
-        if not two:
-            start = begin
-            if not is_elif:
-                at = self.tokens.before(begin)
-                while self.tokens.tokens[at].text not in ("else", "finally"):
-                    at -= 1
-                start = self.tokens.tokens[at].first
-            else:
-                start = self._leading_comments(start, self.carried)
-            # with the comments at its end
-            end = self._tail(self._statement_end(one[-1])[0], outer, False)
-            return [Edit(self._line_start(start), self._line_end(end)[1], b"")]
-        if not is_elif:
-            if self._all_in(two) & {id(it) for it in one}:
-                # what is said of the block is said of them
-                self.staying.add(id(field_of(old, name)))
-            return self._block(old, new, name, inner)
-        if len(two) == 1 and two[0].head == "If" and self._origin(two[0]) in (None, one[0]) and not self.plain:
-            found = self._tried(lambda: self._inside(one[0], two[0]))
-            if found is not None:
-                return found
-        begin = self._leading_comments(begin, self.carried)
-        return [Edit(begin, self._end_with_comments(one[0]), self._alternative(two, outer, inner, word))]
-
-    # An `else` or a `finally` made anew, or an `elif`.
-    def _alternative(self, new: tuple[Term, ...], outer: bytes, inner: bytes, word: bytes) -> bytes:
-        if word == b"else" and len(new) == 1 and new[0].head == "If" and self._is_elif(new[0]):
-            return b"el" + self._rendered(new, outer)
-        return word + b":" + self.newline + inner + self._rendered(new, inner)
-
-    def _last_before(self, old: Term, name: str) -> Term:
-        last = field_of(old, "body").children[-1]
-        for other in ("handlers", "orelse"):
-            if other == name or other not in PLACES[str(old.head)]:
-                break
-            parts = field_of(old, other).children
-            if parts:
-                last = field_of(parts[-1], "body").children[-1] if other == "handlers" else parts[-1]
-        while last.head in BLOCKS:
-            last = self._last_inside(last)
-        return last
-
-    def _last_inside(self, statement: Term) -> Term:
-        if statement.head == "Match":
-            return field_of(field_of(statement, "cases").children[-1], "body").children[-1]
-        for name in ("finalbody", "orelse", "handlers", "body"):
-            if name in PLACES[str(statement.head)] and field_of(statement, name).children:
-                last = field_of(statement, name).children[-1]
-                return field_of(last, "body").children[-1] if name == "handlers" else last
-        raise Cannot
-
-    # The handlers of a `try`, or the cases of a `match`: each is changed in its place.
-    def _parts(self, old: Term, new: Term, name: str) -> list[Edit]:
-        one, two = field_of(old, name).children, field_of(new, name).children
-        if len(one) != len(two):
-            raise Cannot
-        edits: list[Edit] = []
-        for it, other in zip(one, two):
-            if it is not other:
-                edits += self._fields(Place(it, other), it, other)
-        return edits
-
-    # Where a `case` begins, which has no position.
-    def _case(self, case: Term) -> int:
-        at = self.tokens.before(span(field_of(case, "pattern"))[0])
-        while self.tokens.tokens[at].text != "case":
-            at -= 1
-        return self.tokens.tokens[at].first
-
-    # Decorators, each on a line of its own.
-    def _decorators(self, old: Term, new: Term) -> list[Edit]:
-        one, two = field_of(old, "decorator_list").children, field_of(new, "decorator_list").children
-        indent = self._indent(span(old)[0])
-        homes = {id(it): at for at, it in enumerate(one)}
-        pairs = aligned([homes.get(id(self._origin(it))) for it in two])
-        edits: list[Edit] = []
-        for before, after in pairs:
-            edits += self._node(one[before], two[after])
-        for (old_from, new_from), (old_to, new_to) in zip([(-1, -1), *pairs], [*pairs, (len(one), len(two))]):
-            goes, comes = one[old_from + 1 : old_to], two[new_from + 1 : new_to]
-            for it, other in zip(goes, comes):
-                edits.append(Edit(*self._around((self._at_sign(it), span(old)[0]), it), self._text(other, indent).encode()))
-            for it in goes[len(comes) :]:
-                begin = self._leading_comments(self._at_sign(it), self.carried)
-                edits.append(Edit(self._line_start(begin), self._decorator_end(it)[1], b""))
-            lines = [self._decorator(it, indent) for it in comes[len(goes) :]]
-            if lines:
-                place = span(old)[0]
-                if old_to < len(one):
-                    place = self._at_sign(one[old_to])
-                    place = self._leading_comments(place) if old_to else place
-                edits.append(Edit(place, place, b"".join(it + self.newline + indent for it in lines)))
-        return edits
-
-    # The text of a decorator. One from elsewhere has the comments before it, but for the first, and that in its line.
-    def _decorator(self, decorator: Term, indent: bytes) -> bytes:
-        text = b"@" + self._text(decorator, indent).encode()
-        origin = self._origin(decorator)
-        home = self.homes.get(id(origin)) if origin is not None else None
-        if origin is None or home is None or self.plain or self.tokens.text_at(self.tokens.before(span(origin)[0])) != "@":
-            return text
-        sign, end = self._at_sign(origin), span(origin)[1]
-        begin = self._leading_comments(sign) if home[1] else sign
-        self.carrying.extend((it.first, id(origin)) for it in self.tokens.comments_between(begin, sign))
-        comment = self._comment_after(end)
-        text = self._indented(self._copied(begin, sign, []), self._indent(sign), indent) + text
-        return text if comment is None else text + self._copied(end, comment.last, [])
-
-    def _decorator_end(self, decorator: Term) -> tuple[int, int]:
-        at = self.tokens.after(span(decorator)[1])
-        while self.tokens.tokens[at].kind != tokenize.NEWLINE:
-            at += 1
-        return self._line_end(self.tokens.tokens[at].first)

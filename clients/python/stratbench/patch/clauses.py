@@ -1,0 +1,140 @@
+"""The parts of statements with blocks: `else` and `finally`, handlers and cases, decorators."""
+
+from __future__ import annotations
+
+import tokenize
+
+from ..terms import Term
+from .base import Place
+from .edits import BLOCKS, PLACES, Cannot, Edit, aligned, field_of, span
+from .statements import Statements
+
+
+class Clauses(Statements):
+    """The edits of these parts."""
+
+    # The edits for a block of a statement, with its `else` or `finally`.
+    def _clause(self, old: Term, new: Term, name: str) -> list[Edit]:
+        one, two = field_of(old, name).children, field_of(new, name).children
+        outer = self._indent(self._case(old) if old.head == "match_case" else span(old)[0])
+        inner = outer + self.tokens.unit
+        if name == "body":
+            return self._block(old, new, name, inner)
+        word = b"finally" if name == "finalbody" else b"else"
+        if not one:
+            return [self._line_after(self._last_before(old, name), outer + self._alternative(two, outer, inner, word), outer)]
+        begin, end = self._begin(one[0]), span(one[-1])[1]
+        is_elif = old.head == "If" and len(one) == 1 and one[0].head == "If" and self.text[begin:].startswith(b"elif")
+        if not two:
+            start = begin
+            if not is_elif:
+                at = self.tokens.before(begin)
+                while self.tokens.tokens[at].text not in ("else", "finally"):
+                    at -= 1
+                start = self.tokens.tokens[at].first
+            else:
+                start = self._leading_comments(start, self.carried)
+            # with the comments at its end
+            end = self._tail(self._statement_end(one[-1])[0], outer, False)
+            return [Edit(self._line_start(start), self._line_end(end)[1], b"")]
+        if not is_elif:
+            if self._all_in(two) & {id(it) for it in one}:
+                # what is said of the block is said of them
+                self.staying.add(id(field_of(old, name)))
+            return self._block(old, new, name, inner)
+        if len(two) == 1 and two[0].head == "If" and self._origin(two[0]) in (None, one[0]) and not self.plain:
+            found = self._tried(lambda: self._inside(one[0], two[0]))
+            if found is not None:
+                return found
+        begin = self._leading_comments(begin, self.carried)
+        return [Edit(begin, self._end_with_comments(one[0]), self._alternative(two, outer, inner, word))]
+
+    # An `else` or a `finally` made anew, or an `elif`.
+    def _alternative(self, new: tuple[Term, ...], outer: bytes, inner: bytes, word: bytes) -> bytes:
+        if word == b"else" and len(new) == 1 and new[0].head == "If" and self._is_elif(new[0]):
+            return b"el" + self._rendered(new, outer)
+        return word + b":" + self.newline + inner + self._rendered(new, inner)
+
+    def _last_before(self, old: Term, name: str) -> Term:
+        last = field_of(old, "body").children[-1]
+        for other in ("handlers", "orelse"):
+            if other == name or other not in PLACES[str(old.head)]:
+                break
+            parts = field_of(old, other).children
+            if parts:
+                last = field_of(parts[-1], "body").children[-1] if other == "handlers" else parts[-1]
+        while last.head in BLOCKS:
+            last = self._last_inside(last)
+        return last
+
+    def _last_inside(self, statement: Term) -> Term:
+        if statement.head == "Match":
+            return field_of(field_of(statement, "cases").children[-1], "body").children[-1]
+        for name in ("finalbody", "orelse", "handlers", "body"):
+            if name in PLACES[str(statement.head)] and field_of(statement, name).children:
+                last = field_of(statement, name).children[-1]
+                return field_of(last, "body").children[-1] if name == "handlers" else last
+        raise Cannot
+
+    # The handlers of a `try`, or the cases of a `match`: each is changed in its place.
+    def _parts(self, old: Term, new: Term, name: str) -> list[Edit]:
+        one, two = field_of(old, name).children, field_of(new, name).children
+        if len(one) != len(two):
+            raise Cannot
+        edits: list[Edit] = []
+        for it, other in zip(one, two):
+            if it is not other:
+                edits += self._fields(Place(it, other), it, other)
+        return edits
+
+    # Where a `case` begins, which has no position.
+    def _case(self, case: Term) -> int:
+        at = self.tokens.before(span(field_of(case, "pattern"))[0])
+        while self.tokens.tokens[at].text != "case":
+            at -= 1
+        return self.tokens.tokens[at].first
+
+    # Decorators, each on a line of its own.
+    def _decorators(self, old: Term, new: Term) -> list[Edit]:
+        one, two = field_of(old, "decorator_list").children, field_of(new, "decorator_list").children
+        indent = self._indent(span(old)[0])
+        homes = {id(it): at for at, it in enumerate(one)}
+        pairs = aligned([homes.get(id(self._origin(it))) for it in two])
+        edits: list[Edit] = []
+        for before, after in pairs:
+            edits += self._node(one[before], two[after])
+        for (old_from, new_from), (old_to, new_to) in zip([(-1, -1), *pairs], [*pairs, (len(one), len(two))]):
+            goes, comes = one[old_from + 1 : old_to], two[new_from + 1 : new_to]
+            for it, other in zip(goes, comes):
+                edits.append(Edit(*self._around((self._at_sign(it), span(old)[0]), it), self._text(other, indent).encode()))
+            for it in goes[len(comes) :]:
+                begin = self._leading_comments(self._at_sign(it), self.carried)
+                edits.append(Edit(self._line_start(begin), self._decorator_end(it)[1], b""))
+            lines = [self._decorator(it, indent) for it in comes[len(goes) :]]
+            if lines:
+                place = span(old)[0]
+                if old_to < len(one):
+                    place = self._at_sign(one[old_to])
+                    place = self._leading_comments(place) if old_to else place
+                edits.append(Edit(place, place, b"".join(it + self.newline + indent for it in lines)))
+        return edits
+
+    # The text of a decorator. One from elsewhere has the comments before it, but for the first, and that in its line.
+    def _decorator(self, decorator: Term, indent: bytes) -> bytes:
+        text = b"@" + self._text(decorator, indent).encode()
+        origin = self._origin(decorator)
+        home = self.homes.get(id(origin)) if origin is not None else None
+        if origin is None or home is None or self.plain or self.tokens.text_at(self.tokens.before(span(origin)[0])) != "@":
+            return text
+        sign, end = self._at_sign(origin), span(origin)[1]
+        begin = self._leading_comments(sign) if home[1] else sign
+        self.carrying.extend((it.first, id(origin)) for it in self.tokens.comments_between(begin, sign))
+        comment = self._comment_after(end)
+        text = self._indented(self._copied(begin, sign, []), self._indent(sign), indent) + text
+        return text if comment is None else text + self._copied(end, comment.last, [])
+
+    def _decorator_end(self, decorator: Term) -> tuple[int, int]:
+        at = self.tokens.after(span(decorator)[1])
+        while self.tokens.tokens[at].kind != tokenize.NEWLINE:
+            at += 1
+        return self._line_end(self.tokens.tokens[at].first)
