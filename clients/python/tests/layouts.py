@@ -11,10 +11,10 @@
     --- shadowed
     1: f
 
-`do` is the strategy. With `keep:` in its place the command runs with `--keep-comments`. A line that begins with a blank goes on
-with it. After `lost`, which may be left out, are the comments that are to be named, with their lines; with `keep` those for which
-a place is left. After `shadowed`, which may be left out, are the names of new imports that are bound to something else, too. A file begins with the names of the modules of `strategies` that its cases need besides `python`, and with
-rules, which are a module of their own.
+`do` is the strategy, in whose place `keep` stands for `--keep-comments`. After `lost` are the comments that are to be named, with their
+lines; with `keep` those for which a place is left. After `shadowed` are the names of new imports that are bound to something else, too.
+Both may be left out. A file begins with the names of the modules of `strategies` that its cases need besides `python`, and with rules,
+which are a module of their own.
 """
 
 import glob
@@ -51,7 +51,8 @@ def read_case(text):
     found = dict(zip(sections[::2], sections[1::2]))
     word, strategy = how.split(":", 1)
     assert word in ("do", "keep") and "before" in found and "after" in found, title
-    return Case(title, word == "keep", strategy.strip(), found["before"], found["after"], found.get("lost", "").splitlines(), found.get("shadowed", "").splitlines())
+    lost, shadowed = (found.get(it, "").splitlines() for it in ("lost", "shadowed"))
+    return Case(title, word == "keep", strategy.strip(), found["before"], found["after"], lost, shadowed)
 
 
 def results(top, names, rules, cases):

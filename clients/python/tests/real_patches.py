@@ -64,7 +64,9 @@ def is_with(term):
 
 
 def wrap_body(source, term):
-    if term.head not in ("FunctionDef", "AsyncFunctionDef") or not all(is_alone(source, it) or it.head in BLOCKS for it in term.children[2].children):
+    if term.head not in ("FunctionDef", "AsyncFunctionDef"):
+        return term
+    if not all(is_alone(source, it) or it.head in BLOCKS for it in term.children[2].children):
         return term
     return Term(term.head, (*term.children[:2], listed(with_block(*term.children[2].children)), *term.children[3:]), term.annotations)
 
@@ -240,7 +242,8 @@ def tests(everything):
     for title, wrap, unwrap in WRAPS:
         outcomes_of = {name: there_and_back(it, wrap, unwrap) for name, it in sources.items()}
         yield from ((f"{title} and unwrapped: {name}", fault) for name, (fault, _) in outcomes_of.items() if fault)
-        yield f"{title} and unwrapped: {len(sources)} modules", "" if any(some for _, some in outcomes_of.values()) else "nothing was wrapped"
+        some = any(it for _, it in outcomes_of.values())
+        yield f"{title} and unwrapped: {len(sources)} modules", "" if some else "nothing was wrapped"
     for number, (name, source) in enumerate(sources.items()):
         fault = kept(source, changed_by_chance(random.Random(number), source.term))
         if fault:

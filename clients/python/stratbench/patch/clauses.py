@@ -4,9 +4,10 @@ from __future__ import annotations
 
 import tokenize
 
-from ..terms import Term
+from ..terms import LIST, Term
 from .base import Place
-from .edits import BLOCKS, PLACES, Cannot, Edit, aligned, field_of, span
+from .edits import BLOCKS, PASS, PLACES, Cannot, Edit, aligned, field_of, span
+from .markers import name_of
 from .statements import Statements
 
 
@@ -76,16 +77,59 @@ class Clauses(Statements):
                 return field_of(last, "body").children[-1] if name == "handlers" else last
         raise Cannot
 
-    # The handlers of a `try`, or the cases of a `match`: each is changed in its place.
+    # The handlers of a `try`, or the cases of a `match`.
     def _parts(self, old: Term, new: Term, name: str) -> list[Edit]:
         one, two = field_of(old, name).children, field_of(new, name).children
-        if len(one) != len(two):
-            raise Cannot
+        homes = {id(self._named(it)): at for at, it in enumerate(one)}
+        pairs = aligned([homes.get(id(self._origin(self._named(it)))) for it in two])
         edits: list[Edit] = []
-        for it, other in zip(one, two):
-            if it is not other:
-                edits += self._fields(Place(it, other), it, other)
+        for (old_from, new_from), (old_to, new_to) in zip([(-1, -1), *pairs], [*pairs, (len(one), len(two))]):
+            goes, comes = one[old_from + 1 : old_to], two[new_from + 1 : new_to]
+            pairs_of_gap = list(zip(goes, comes))
+            if old_to < len(one):
+                pairs_of_gap.append((one[old_to], two[new_to]))
+            for it, other in pairs_of_gap:
+                if it is not other:
+                    edits += self._fields(Place(it, other), it, other)
+            edits += [self._without_part(it) for it in goes[len(comes) :]]
+            if len(comes) > len(goes):
+                edits.append(self._more_parts(old, name, one[:old_to], comes[len(goes) :]))
         return edits
+
+    # The node by which a handler or a case is known.
+    def _named(self, part: Term) -> Term:
+        return field_of(part, "pattern") if part.head == "match_case" else part
+
+    def _part_begin(self, part: Term) -> int:
+        return self._case(part) if part.head == "match_case" else span(part)[0]
+
+    # The edit without a handler or a case, and without the comments in it.
+    def _without_part(self, part: Term) -> Edit:
+        begin = self._part_begin(part)
+        last = field_of(part, "body").children[-1]
+        end = self._tail(self._statement_end(last)[0], self._indent(begin), False)
+        return Edit(self._line_start(begin), self._line_end(end)[1], b"")
+
+    # The edit that puts handlers or cases after these.
+    def _more_parts(self, old: Term, name: str, before: tuple[Term, ...], comes: tuple[Term, ...]) -> Edit:
+        if name == "cases" and not before:
+            raise Cannot
+        outer = self._indent(self._part_begin(before[0]) if before else span(old)[0])
+        text = self._fresh_parts(str(old.head), comes, outer)
+        last = field_of(before[-1] if before else old, "body").children[-1]
+        while last.head in BLOCKS:
+            last = self._last_inside(last)
+        return self._line_after(last, outer + text, outer)
+
+    # Handlers or cases made anew: the end of a statement that is made anew.
+    def _fresh_parts(self, head: str, parts: tuple[Term, ...], indent: bytes) -> bytes:
+        if head == "Match":
+            above = indent[: len(indent) - len(self.tokens.unit)]
+            whole = self._fresh_statement(Term("Match", (name_of("_"), Term(LIST, parts))), above)
+            return whole.split(self.newline, 1)[1][len(above + self.tokens.unit) :]
+        empty = Term(LIST)
+        whole = self._fresh_statement(Term(head, (Term(LIST, (PASS,)), Term(LIST, parts), empty, empty)), indent)
+        return whole.split(self.newline, 2)[2][len(indent) :]
 
     # Where a `case` begins, which has no position.
     def _case(self, case: Term) -> int:
