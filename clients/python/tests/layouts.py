@@ -13,13 +13,14 @@
 
 `do` is the strategy, in whose place `keep` stands for `--keep-comments`. After `lost` are the comments that are to be named, with their
 lines; with `keep` those for which a place is left. After `shadowed` are the names of new imports that are bound to something else, too.
-Both may be left out. A file begins with the names of the modules of `strategies` that its cases need besides `python`, and with rules,
-which are a module of their own.
+Both may be left out. A file begins with what its cases need, a version of Python or modules of `strategies` besides `python`, and with
+rules, which are a module of their own.
 """
 
 import glob
 import os
 import re
+import sys
 import tempfile
 from typing import NamedTuple
 
@@ -38,11 +39,11 @@ class Case(NamedTuple):
 
 
 def read_cases(text):
-    """The names of modules, the text of the module of the file's own, and its cases."""
+    """What the file says first, the text of the module of its own, and its cases."""
     head, *parts = re.split(r"^=== ", text, flags=re.MULTILINE)
-    names = re.search(r"^modules:(.*)\n", head, re.MULTILINE)
-    rules = "module cases\n" + (head.replace(names[0], "") if names else head)
-    return (names[1].split() if names else []), rules, [read_case(it) for it in parts]
+    said = dict(re.findall(r"^(modules|python): (.*)\n", head, re.MULTILINE))
+    rules = re.sub(r"^(?:modules|python):.*\n", "", head, flags=re.MULTILINE)
+    return said, "module cases\n" + rules, [read_case(it) for it in parts]
 
 
 def read_case(text):
@@ -58,7 +59,7 @@ def read_case(text):
 def results(top, names, rules, cases):
     """The trees that the strategies give, by one process of the workbench."""
     modules = []
-    for name in ["python", *names]:
+    for name in ["python", *names.split()]:
         with open(f"{top}/strategies/{name}.str", "rb") as it:
             modules.append((name, it.read()))
     task = refactor.Task((*modules, ("cases", rules.encode())), "id")
@@ -90,6 +91,10 @@ def tests(top):
     """The title of each case, and what is wrong with it."""
     for file in sorted(glob.glob(f"{os.path.dirname(__file__)}/patches/*.txt")):
         with open(file, newline="") as it:
-            names, rules, cases = read_cases(it.read())
-        for case, source, result in results(top, names, rules, cases):
-            yield f"{os.path.basename(file)[:-4]}: {case.title}", fault_of(case, source, result)
+            said, rules, cases = read_cases(it.read())
+        title = os.path.basename(file)[:-4]
+        if sys.version_info < tuple(int(it) for it in said.get("python", "3.9").split(".")):
+            yield f"{title}: this Python is too old for these", ""
+            continue
+        for case, source, result in results(top, said.get("modules", ""), rules, cases):
+            yield f"{title}: {case.title}", fault_of(case, source, result)

@@ -53,10 +53,12 @@ class Moved(Nodes):
     def _head_end(self, begin: int) -> int:
         return self._line_end(self.tokens.tokens[self.tokens.before(begin) - 1].last)[1]
 
-    # Where the comments begin between the head of a block and its first statement, if all are among these.
+    # Where the comments begin between the head of a block and its first statement, if all are as deep as that, and among these.
     def _after_head(self, begin: int, some: set[int] | None = None) -> int:
         inside = self.tokens.comments_between(self._head_end(begin), begin)
-        return inside[0].first if inside and (some is None or all(it.first in some for it in inside)) else begin
+        if any(self._indent(it.first) != self._indent(begin) or (some is not None and it.first not in some) for it in inside):
+            return begin
+        return inside[0].first if inside else begin
 
     # The comments of a block's `else` or `finally`, above it or in its line, which go with its statements.
     def _heads(self, block: Term) -> list[Token]:
