@@ -4,6 +4,7 @@ from __future__ import annotations
 
 import tokenize
 from abc import abstractmethod
+from keyword import iskeyword
 
 from ..python import CONSTRUCTORS, position
 from ..terms import LIST, Term, string
@@ -136,13 +137,23 @@ class Nodes(Joined):
         is_whole = len(edits) == 1 and (edits[0].first, edits[0].last) == (first, last)
         if new.head == "GeneratorExp" and old.head != new.head and self._is_alone(place, old):
             return _without_brackets(edits)
-        if not needed or (new.head == "Tuple" and is_whole and edits[0].text.startswith(b"(") and not of_call):
+        if new.head == "Tuple" and is_whole and edits[0].text.startswith(b"(") and not of_call:
+            return _without_brackets(edits) if self._is_grouped(first, last) else edits
+        if not needed:
             return edits
         if is_whole:
             return [Edit(first, last, b"(" + edits[0].text + b")")]
         if of_call or old.head in OPERATIONS:
             return [Edit(first, first, b"("), *edits, Edit(last, last, b")")]
         return edits
+
+    # Whether a node has brackets around it that are for it alone: not those of a call.
+    def _is_grouped(self, first: int, last: int) -> bool:
+        before, after = self.tokens.before(first), self.tokens.after(last)
+        if self.tokens.text_at(before) != "(" or self.tokens.text_at(after) != ")":
+            return False
+        above = self.tokens.text_at(before - 1)
+        return iskeyword(above) or not (above.isidentifier() or above in (")", "]", "}") or above[-1:] in ("'", '"'))
 
     # Whether a node is all that is between the brackets of a call, before and after.
     def _is_alone(self, place: Place, old: Term) -> bool:
