@@ -2,6 +2,8 @@
 
 from __future__ import annotations
 
+from bisect import bisect_right
+
 from ..python import Source
 from ..terms import Term
 from .clauses import Clauses
@@ -31,16 +33,19 @@ class Patcher(Clauses):
         if not edits:
             return Patch([], [])
         there = self.marks.noted(edits) & self.carried
-        left = [self._away(it) for it in staying(self.tokens.comments, edits) if it.first in there]
+        ends = [it.last for it in edits]
+        left = [self._away(it, ends) for it in staying(self.tokens.comments, edits) if it.first in there]
         if left:
             edits = sorted([*edits, *left], key=lambda it: (it.first, it.last))
         return self.marks.resolved(edits, self.tokens.comments)
 
-    # The edit without a comment, and without its line where it is alone there.
-    def _away(self, comment: Token) -> Edit:
+    # The edit without a comment, and without its line where it is alone there. It is between others, which end at these places.
+    def _away(self, comment: Token, ends: list[int]) -> Edit:
+        at = bisect_right(ends, comment.first) - 1
+        before = ends[at] if at >= 0 else 0
         if comment.first in self.tokens.comment_lines:
-            return Edit(self._line_start(comment.first), self._line_end(comment.first)[1], b"")
-        return Edit(self.tokens.tokens[self.tokens.before(comment.first)].last, comment.last, b"")
+            return Edit(max(before, self._line_start(comment.first)), self._line_end(comment.first)[1], b"")
+        return Edit(max(before, self.tokens.tokens[self.tokens.before(comment.first)].last), comment.last, b"")
 
     def _expression(self, source: Source, new: Term, offset: int) -> list[Edit]:
         source.encoding = self.source.encoding
