@@ -200,14 +200,19 @@ WIDE = [
     ("a list from which elements go", "x = [{}]\n", "gone, 1,  # a\n"),
     ("a block", "{}", "x = 7  # a\n"),
     ("a block from which statements go", "{}", "x\ngone  # a\n"),
+    ("a block that is made anew", "{}", "made  # a\n"),
+    ("a block of which every other statement is made anew", "{}", "made  # a\nx = 7\n"),
 ]
 
 
-def sum_or_none(term):
+def other(term):
+    """Another node in the place of one; `gone` for none."""
     if term.head == LIST:
         return listed(*(it for it in term.children if it.head != "gone"))
     if term.head == "Constant" and term.children[0].head == 7:
         return Term("BinOp", (Term("Constant", (Term(3), NONE)), Term("Add"), Term("Constant", (Term(4), NONE))))
+    if term.head == "Expr" and term.children[0].children[:1] == (string("made"),):
+        return Term("Pass")
     if term.head in ("Name", "Expr") and any(it.head in (b"gone", "gone") for it in term.children):
         return Term("gone")
     return term
@@ -216,7 +221,7 @@ def sum_or_none(term):
 def calls(outer, part, count):
     """How many calls of functions it takes to change each part of a source."""
     source = python.Source(outer.format("".join(part.format(it) for it in range(count))).encode())
-    new = bottom_up(source.term, sum_or_none)
+    new = bottom_up(source.term, other)
     found = 0
 
     def count_one(frame, event, argument):

@@ -2,7 +2,7 @@
 
 from __future__ import annotations
 
-from bisect import bisect_right
+from bisect import bisect_left, bisect_right
 from collections.abc import Sequence
 from typing import NamedTuple
 
@@ -101,19 +101,22 @@ class Statements(Moved):
     # Of the others one made anew of nothing old, or of parts of it, is the one of the same constructor that is gone.
     def _replacements(self, old: tuple[Term, ...], goes: range, new: tuple[Term, ...], comes: range) -> list[tuple[int, int]]:
         found: list[tuple[int, int]] = []
-        left = [at for at in goes if not self.plain and not self.former.is_taken(old[at])]
-        begins = [self._begin(old[at]) for at in goes]
+        left: dict[object, list[int]] = {}
+        for at in goes if comes and not self.plain else ():
+            if not self.former.is_taken(old[at]):
+                left.setdefault(old[at].head, []).append(at)
+        begins = [self._begin(old[at]) for at in goes] if left else []
+        first = goes.start
         for other in comes if left else ():
-            if self._was(new[other]) is not None:
+            alike = left.get(new[other].head, [])
+            if not alike or self._was(new[other]) is not None:
                 continue
             part = self.former.part_of(new[other])
-            owner = None if part is None else self._owner(old, goes, begins, part)
-            if part is not None and owner is None:
-                continue
-            at = next((it for it in left if old[it].head == new[other].head and owner in (None, it)), None)
-            if at is not None:
-                found.append((at, other))
-                left = [it for it in left if it > at]
+            owner = first if part is None else self._owner(old, goes, begins, part)
+            place = bisect_left(alike, first if owner is None else max(owner, first))
+            if owner is not None and place < len(alike) and (part is None or alike[place] == owner):
+                found.append((alike[place], other))
+                first = alike[place] + 1
         return found
 
     # The edits where the statements from one place to another go, and others come. What has parts of an old one takes its
