@@ -9,7 +9,7 @@ from __future__ import annotations
 
 from bisect import bisect_right
 from collections.abc import Iterable, Iterator, Mapping
-from typing import NamedTuple, Optional
+from typing import Final, NamedTuple, Optional
 
 from .patch.edits import IMPORTS, STATEMENTS, aligned
 from .python import position
@@ -118,7 +118,11 @@ def _is_new_import(term: Term) -> bool:
     return term.head in IMPORTS and position(term) is None
 
 
-# The changes in groups: a group has all those of which one takes what another gives away.
+# Nodes whose lists go together, element by element.
+_PARALLEL: Final = ("Dict", "Compare", "MatchMapping", "MatchClass")
+
+
+# The changes in groups: a group has all those of which one takes what another gives away, and those of lists that go together.
 def _together(old: Term, changes: list[Change]) -> list[list[Change]]:
     spans = ((position(term), at) for at, it in enumerate(changes) for term in it.goes(old))
     gone = sorted((*found, at) for found, at in spans if found is not None)
@@ -135,6 +139,10 @@ def _together(old: Term, changes: list[Change]) -> list[list[Change]]:
             found = bisect_right(firsts, place) - 1
             if found >= 0 and place < gone[found][1]:
                 group[leader(gone[found][2])] = leader(at)
+    nodes: dict[Path, int] = {}
+    for at, it in enumerate(changes):
+        if it.path and subterm(old, it.path[:-1]).head in _PARALLEL:
+            group[leader(nodes.setdefault(it.path[:-1], at))] = leader(at)
     groups: dict[int, list[Change]] = {}
     for at, it in enumerate(changes):
         groups.setdefault(leader(at), []).append(it)
