@@ -19,18 +19,20 @@ As a command it prints the term of a file, or with no file the module of strateg
 from __future__ import annotations
 
 import ast
-import gc
 import io
 import re
 import sys
 import tokenize
 import warnings
 from bisect import bisect_right
-from collections.abc import Iterator
-from contextlib import contextmanager
+from collections import Counter
+from collections.abc import Callable, Iterator
+from functools import cached_property
+from operator import attrgetter
 from typing import Final, NamedTuple
 
-from .terms import LIST, TUPLE, NoTerm, Term, string, write
+from .terms import LIST, TUPLE, NoTerm, Shown, Term, string, write
+from .terms import deep as deep
 
 # What versions of Python after 3.9 added. A tree of an older one has the empty list, or nothing, in a field that it lacks, so
 # that a strategy holds for trees of all versions.
@@ -215,19 +217,23 @@ def to_term(tree: ast.AST, lines: Lines | None = None) -> Term:
     return _to_term(tree, lines.starts if lines else None)
 
 
-_PLANS: dict[type, tuple[str, tuple[tuple[str, str, str], ...]]] = {}
+_PLANS: dict[type, tuple[str, tuple[Field, ...]]] = {}
 
 
-def _to_term(node: ast.AST, starts: list[int] | None) -> Term:
-    kind = type(node)
+# The name and the fields of a class of nodes.
+def _plan(kind: type) -> tuple[str, tuple[Field, ...]]:
     plan = _PLANS.get(kind)
     if plan is None:
         if kind.__name__ not in CONSTRUCTORS:
             raise NoTerm(f"no constructor for {kind.__name__}")
         plan = _PLANS[kind] = (kind.__name__, CONSTRUCTORS[kind.__name__].fields)
-    name, fields = plan
+    return plan
+
+
+def _to_term(node: ast.AST, starts: list[int] | None) -> Term:
+    name, fields = _plan(type(node))
     children: list[Term] = []
-    inside = None if name == "JoinedStr" or name == "TemplateStr" else starts
+    inside = None if name in _WITHOUT_PLACES else starts
     for field, sort, number in fields:
         value = getattr(node, field, None)
         if isinstance(value, ast.AST):
@@ -246,6 +252,152 @@ def _to_term(node: ast.AST, starts: list[int] | None) -> Term:
     first: int = starts[getattr(node, "lineno") - 1] + getattr(node, "col_offset")
     last: int = starts[getattr(node, "end_lineno") - 1] + column
     return Term(name, tuple(children), (Term(TUPLE, (Term(first), Term(last))),))
+
+
+# Nodes whose fields have no positions, since Python before 3.12 gets those in f-strings wrong.
+_WITHOUT_PLACES: Final = ("JoinedStr", "TemplateStr")
+
+
+# What is in a field: a node, a node without fields, a list, a constant of Python's, or a name, a number or nothing.
+_NODE, _BARE, _LIST, _CONSTANT, _LEAF = range(5)
+_BARE_SORTS: Final = frozenset("expr_context boolop operator unaryop cmpop".split())
+
+
+def _kind(field: Field) -> int:
+    if field.number == "*":
+        return _LIST
+    if field.sort in _BARE_SORTS:
+        return _BARE
+    return _CONSTANT if field.sort == "constant" else _LEAF if field.sort in ("identifier", "string", "int") else _NODE
+
+
+_KINDS: Final = {it.name: tuple((field.name, _kind(field)) for field in it.fields) for it in CONSTRUCTORS.values()}
+
+
+class _TreeText:
+    """The text of a syntax tree's term with positions, and its size. The term itself isn't made: of most files nothing else is
+    wanted, and it would take longer than parsing."""
+
+    def __init__(self, tree: ast.AST, lines: Lines) -> None:
+        self.size = 0
+        self._leaves: dict[object, str] = {}
+        self.text = self._node(tree, lines.starts)
+
+    def _node(self, node: ast.AST, starts: list[int] | None) -> str:
+        name = node.__class__.__name__
+        values, size = node.__dict__, 1
+        parts: list[str] = []
+        inside = None if name in _WITHOUT_PLACES else starts
+        for field, kind in _KINDS[name]:
+            value = values.get(field)
+            if kind == _NODE and value is not None:
+                parts.append(self._node(value, inside))
+                continue
+            size += 1
+            if kind == _BARE:
+                parts.append(value.__class__.__name__)
+            elif kind == _LIST:
+                parts.append(f"[{','.join([self._element(it, inside) for it in value])}]" if value else "[]")
+            elif kind == _CONSTANT and value.__class__ is not str:
+                it = constant(value)
+                size += len(it.children)
+                parts.append(write(it))
+            else:
+                parts.append(self._leaves.get(value) or self._leaf(value))
+        self.size += size
+        text = f"{name}({','.join(parts)})" if parts else name
+        if starts is None or "end_col_offset" not in values:
+            return text
+        self.size += 3
+        first = starts[values["lineno"] - 1] + values["col_offset"]
+        return f"{text}{{({first},{starts[values['end_lineno'] - 1] + values['end_col_offset']})}}"
+
+    def _element(self, value: object, starts: list[int] | None) -> str:
+        if isinstance(value, ast.AST):
+            return self._node(value, starts)
+        self.size += 1
+        return self._leaves.get(value) or self._leaf(value)
+
+    def _leaf(self, value: object) -> str:
+        text = self._leaves[value] = write(_leaf(value))
+        return text
+
+
+class Survey(NamedTuple):
+    """What is seen of a syntax tree at a glance: the constructors of its nodes but for contexts, and bounds of the size and the height of
+    its term."""
+
+    constructors: frozenset[str]
+    least_terms: int
+    most_terms: int
+    most_levels: int
+
+
+class _Class(NamedTuple):
+    """A class of nodes: how what is in a node is got, by its one field with a node, or several, its one list, or several; its terms
+    beside these, the least and the most."""
+
+    one: str | None
+    several: Callable[[ast.AST], tuple[object, ...]] | None
+    many: str | None
+    lists: Callable[[ast.AST], tuple[list[object] | None, ...]] | None
+    least: int
+    most: int
+
+
+def _class(it: Constructor, kind: type[ast.AST]) -> _Class:
+    fields = [(field, _kind(field)) for field in it.fields if field.name in kind._fields]
+    one = [field.name for field, what in fields if what == _NODE or what == _BARE and field.sort != "expr_context"]
+    many = [field.name for field, what in fields if what == _LIST]
+    # itself and what is in other fields; a position is three terms, and a constant may have a string in it
+    least = 1 + len(it.fields) - len(one)
+    most = least + 3 * ("end_col_offset" in kind._attributes) + sum(what == _CONSTANT for _, what in fields)
+    return _Class(
+        one[0] if len(one) == 1 else None,
+        attrgetter(*one) if len(one) > 1 else None,
+        many[0] if len(many) == 1 else None,
+        attrgetter(*many) if len(many) > 1 else None,
+        least,
+        most,
+    )
+
+
+_CLASSES: Final = {getattr(ast, it.name): _class(it, getattr(ast, it.name)) for it in CONSTRUCTORS.values() if hasattr(ast, it.name)}
+_WITH_OTHERS: Final = {kind: it[:4] for kind, it in _CLASSES.items() if any(it[:4])}
+
+
+def survey(tree: ast.AST) -> Survey:
+    """Returns the survey of a syntax tree. It goes over the nodes level by level, which takes a fifth of the time of parsing."""
+    level: list[object] = [tree]
+    found: Counter[type] = Counter()
+    levels = 0
+    known = _WITH_OTHERS.get
+    while level:
+        levels += 1
+        found.update(map(type, level))
+        below: list[object] = []
+        add = below.append
+        for node in level:
+            fields = known(node.__class__)
+            if fields is not None:
+                one, several, many, lists = fields
+                if one is not None:
+                    add(getattr(node, one))
+                elif several is not None:
+                    below += several(node)  # type: ignore
+                if many is not None:
+                    below += getattr(node, many)
+                elif lists is not None:
+                    for it in lists(node):  # type: ignore
+                        if it:
+                            below += it
+        level = below
+    # what is no node is a name, or nothing
+    others = sum(count for kind, count in found.items() if kind not in _CLASSES)
+    least = others + sum(count * _CLASSES[kind].least for kind, count in found.items() if kind in _CLASSES)
+    most = others + sum(count * _CLASSES[kind].most for kind, count in found.items() if kind in _CLASSES)
+    # a level of nodes is two of terms, with the list between; below the last are a constant's string, or a position
+    return Survey(frozenset(it.__name__ for it in found if it in _CLASSES), least, most, 2 * levels + 2)
 
 
 def _leaf(value: object) -> Term:
@@ -338,21 +490,6 @@ def position(term: Term) -> tuple[int, int] | None:
     return (first, last) if isinstance(first, int) and isinstance(last, int) else None
 
 
-@contextmanager
-def deep() -> Iterator[None]:
-    """Lets trees of 1,000 levels be gone through by functions that call themselves. Memory isn't searched for cycles meanwhile:
-    trees have none, and the search would take as long as the work."""
-    before, searches = sys.getrecursionlimit(), gc.isenabled()
-    sys.setrecursionlimit(max(before, 12_000))
-    gc.disable()
-    try:
-        yield
-    finally:
-        sys.setrecursionlimit(before)
-        if searches:
-            gc.enable()
-
-
 def parse(text: str) -> ast.Module:
     """Returns the syntax tree of a text. Raises `SyntaxError`, also where Python's parser gives up on it otherwise."""
     with warnings.catch_warnings():
@@ -365,11 +502,17 @@ def parse(text: str) -> ast.Module:
             raise SyntaxError("too deeply nested for Python's parser") from None
 
 
+# Constructors that a survey doesn't have.
+_UNSEEN: Final = frozenset([*_CONSTANTS, "None", *(it.name for it in CONSTRUCTORS.values() if it.sort == "expr_context")])
+_IDENTIFIER: Final = re.compile(rb"[A-Za-z_][A-Za-z0-9_]*")
+
+
 class Source:
-    """A file of Python: its bytes, its text as Python reads it, and its tree as a term.
+    """A file of Python: its bytes, its text as Python reads it, its syntax tree, and that as a term.
 
     `text` is in UTF-8, whatever the file's encoding is, without a byte order mark, with the line ends of the file; positions
-    are places in it. `encoded` gives the bytes of a file for another text. Raises `SyntaxError`.
+    are places in it. `encoded` gives the bytes of a file for another text. `shown` is the text of the term; each is made when it is
+    asked for. Raises `SyntaxError`.
     """
 
     def __init__(self, contents: bytes) -> None:
@@ -383,8 +526,52 @@ class Source:
         self.lines = Lines(self.text)
         with deep():
             self.tree = parse(text)
+
+    @cached_property
+    def survey(self) -> Survey:
+        return survey(self.tree)
+
+    @property
+    def least_terms(self) -> int:
+        """A bound of the size of the term."""
+        return self.survey.least_terms
+
+    @property
+    def most_terms(self) -> int:
+        """Another bound of the size of the term."""
+        return self.survey.most_terms
+
+    @property
+    def most_levels(self) -> int:
+        """A bound of the height of the term."""
+        return self.survey.most_levels
+
+    def lacks(self, constructor: str) -> bool:
+        """Whether there is surely no application of the constructor in the term."""
+        return constructor not in self.survey.constructors and constructor not in _UNSEEN
+
+    def lacks_name(self, constructor: str, field: int, name: bytes) -> bool:
+        """Whether there is surely no application of the constructor with this name in a field. A name in ASCII is in the text letter by
+        letter, if nothing but ASCII is there: other letters may stand for one."""
+        known = CONSTRUCTORS.get(constructor)
+        if known is None or field >= len(known.fields) or known.fields[field].sort != "identifier" or known.fields[field].number == "*":
+            return False
+        return bool(_IDENTIFIER.fullmatch(name)) and self.text.isascii() and name not in self.text
+
+    @cached_property
+    def shown(self) -> Shown:
+        with deep():
             try:
-                self.term = to_term(self.tree, self.lines)
+                found = _TreeText(self.tree, self.lines)
+            except RecursionError:
+                raise SyntaxError("too deeply nested") from None
+        return Shown(found.text, found.size)
+
+    @cached_property
+    def term(self) -> Term:
+        with deep():
+            try:
+                return to_term(self.tree, self.lines)
             except RecursionError:
                 raise SyntaxError("too deeply nested") from None
 
@@ -411,7 +598,7 @@ def _main(words: list[str]) -> None:
         sys.stdout.write(signature())
     for file in words:
         with open(file, "rb") as it:
-            print(write(Source(it.read()).term))
+            print(Source(it.read()).shown.text)
 
 
 if __name__ == "__main__":

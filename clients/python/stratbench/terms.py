@@ -18,7 +18,9 @@ from __future__ import annotations
 
 import gc
 import re
+import sys
 from collections.abc import Iterator, Mapping, Sequence
+from contextlib import contextmanager
 from typing import Final, NamedTuple, Union
 
 LIST: Final = "[]"
@@ -170,6 +172,37 @@ def height(term: Term) -> int:
         waiting.extend((child, level + 1) for child in it.children)
         waiting.extend((child, level + 1) for child in it.annotations)
     return most
+
+
+@contextmanager
+def deep() -> Iterator[None]:
+    """Lets trees of 1,000 levels be gone through by functions that call themselves. Memory isn't searched for cycles meanwhile:
+    trees have none, and the search would take as long as the work."""
+    before, searches = sys.getrecursionlimit(), gc.isenabled()
+    sys.setrecursionlimit(max(before, 12_000))
+    gc.disable()
+    try:
+        yield
+    finally:
+        sys.setrecursionlimit(before)
+        if searches:
+            gc.enable()
+
+
+class Shown(NamedTuple):
+    """The text of a term, and its size."""
+
+    text: str
+    size: int
+
+
+def shown(term: Term) -> Shown:
+    """Returns the text of a term with its size.
+
+    >>> shown(read("f(a,[1]){b}"))
+    Shown(text='f(a,[1]){b}', size=5)
+    """
+    return Shown(write(term), size(term))
 
 
 _PLAIN: Final = re.compile(rb"[ !#-\[\]-~]*")
