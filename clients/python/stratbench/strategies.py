@@ -1,0 +1,313 @@
+"""The texts of strategies and modules, as `docs/manual/strategies.md` has them, as far as that takes to say what a strategy needs.
+
+    >>> definitions("rules R : Name(x,_) -> x where <f> x strategies g(s|y) = s <+ id")
+    {('R', 0, 0): [Definition(strategies=(), terms=(), body=rule)], ('g', 1, 1): [Definition(strategies=('s',), terms=('y',), body=choice)]}
+    >>> it = strategy("try(?Name(x,_)); all(fail)")
+    >>> it, it.parts, it.parts[0].parts[0].patterns
+    (seq, (call, all), (Name(x,_),))
+"""
+
+from __future__ import annotations
+
+import re
+from typing import Final, Literal, NamedTuple
+
+from .terms import LIST, TUPLE, read
+
+_TOKEN: Final = re.compile(
+    r"\s+|//[^\n]*|/\*.*?\*/"
+    r'|(?P<string>"(?:\\.|[^"\\])*")'
+    r"|(?P<word>[A-Za-z_](?:[A-Za-z0-9_']|-(?!>))*)"
+    r"|(?P<number>-?[0-9]+)"
+    r"|(?P<sign>=>|->|<\+|[()\[\]{},;:|=<>+*?!@\\])",
+    re.DOTALL,
+)
+_SECTIONS: Final = ("signature", "rules", "strategies")
+_OF_ONE: Final = {"not": "not", "where": "where", "test": "where", "all": "all", "one": "one", "some": "some"}
+
+
+class NoStrategy(ValueError):
+    """A text that isn't understood here. The workbench says what is wrong with it, if anything is."""
+
+
+class Pattern(NamedTuple):
+    """A pattern: a constructor's (or LIST, or TUPLE), with its parts, a string, an integer, a variable, or another, which matches no
+    more than its parts do: `x@p` has p, one with annotations what is before these, and a list with a tail the list before that."""
+
+    kind: Literal["constructor", "string", "integer", "variable", "other"]
+    name: str | bytes = ""
+    parts: tuple[Pattern, ...] = ()
+
+    def __repr__(self) -> str:
+        name = str(self.name) or "_"
+        return f"{name}({','.join(map(repr, self.parts))})" if self.parts else name
+
+
+class Strategy(NamedTuple):
+    """A strategy: the kind of its form, its name if it has one, and its parts. A rule has its condition, or none, as part, and its sides as
+    patterns; a scope has its variables as patterns."""
+
+    kind: str
+    name: str = ""
+    parts: tuple[Strategy, ...] = ()
+    patterns: tuple[Pattern, ...] = ()
+
+    def __repr__(self) -> str:
+        return self.kind
+
+
+class Definition(NamedTuple):
+    """A definition, with the names of its parameters for strategies and for terms."""
+
+    strategies: tuple[str, ...]
+    terms: tuple[str, ...]
+    body: Strategy
+
+
+# Definitions by their name and the numbers of their parameters.
+Definitions = dict[tuple[str, int, int], list[Definition]]
+
+
+def strategy(text: str) -> Strategy:
+    """Returns the strategy of a text. Raises `NoStrategy`."""
+    reader = _Reader(text)
+    found = reader.strategy()
+    reader.take("")
+    return found
+
+
+def definitions(text: str) -> Definitions:
+    """Returns the definitions of a module. Raises `NoStrategy`."""
+    return _Reader(text).definitions()
+
+
+class _Reader:
+    """The tokens of a text, which are taken one after the other. The end is an empty one."""
+
+    def __init__(self, text: str) -> None:
+        self._tokens: list[tuple[str, str]] = []
+        at = 0
+        while at < len(text):
+            found = _TOKEN.match(text, at)
+            if found is None:
+                raise NoStrategy(f"no token: {text[at : at + 20]}")
+            if found.lastgroup:
+                self._tokens.append((found.lastgroup, found.group()))
+            at = found.end()
+        self._tokens.append(("end", ""))
+        self._at = 0
+
+    @property
+    def _next(self) -> str:
+        return self._tokens[self._at][1]
+
+    @property
+    def _kind(self) -> str:
+        return self._tokens[self._at][0]
+
+    def take(self, *wanted: str) -> str:
+        """Takes a token, one of these if any are given."""
+        token = self._next
+        if wanted and token not in wanted or not wanted and self._kind == "end":
+            raise NoStrategy(f"{token!r} in place of {wanted}")
+        self._at = min(self._at + 1, len(self._tokens) - 1)
+        return token
+
+    def _taken(self, sign: str) -> bool:
+        if self._next != sign or self._kind in ("string", "end"):
+            return False
+        self._at += 1
+        return True
+
+    def _word(self) -> str:
+        if self._kind != "word":
+            raise NoStrategy(f"no name: {self._next}")
+        return self.take()
+
+    def definitions(self) -> Definitions:
+        found: Definitions = {}
+        if self._taken("module"):
+            self.take()
+        section = ""
+        while self._kind != "end":
+            if self._next in _SECTIONS:
+                section = self.take()
+            elif section == "signature":
+                # constructors are known by their use
+                self.take()
+            else:
+                name, it = self._definition()
+                found.setdefault((name, len(it.strategies), len(it.terms)), []).append(it)
+        return found
+
+    def _definition(self) -> tuple[str, Definition]:
+        name = self._word()
+        strategies: list[str] = []
+        terms: list[str] = []
+        if self._taken("("):
+            names = strategies
+            while not self._taken(")"):
+                if self._taken("|"):
+                    names = terms
+                elif not self._taken(","):
+                    names.append(self._word())
+        if self.take("=", ":") == "=":
+            return name, Definition(tuple(strategies), tuple(terms), self.strategy())
+        return name, Definition(tuple(strategies), tuple(terms), self._rule())
+
+    def _rule(self) -> Strategy:
+        left = self._pattern()
+        self.take("->")
+        right = self._pattern()
+        return Strategy("rule", "", (self.strategy(),) if self._taken("where") else (), (left, right))
+
+    def strategy(self) -> Strategy:
+        first = self._sequence()
+        if self._taken("<+"):
+            return Strategy("choice", "", (first, self.strategy()))
+        if self._taken("<"):
+            then = self._sequence()
+            self.take("+")
+            return Strategy("guard", "", (first, then, self.strategy()))
+        return first
+
+    def _sequence(self) -> Strategy:
+        first = self._primary()
+        while self._taken("=>"):
+            first = Strategy("then", "", (first,), (self._pattern(),))
+        return Strategy("seq", "", (first, self._sequence())) if self._taken(";") else first
+
+    def _primary(self) -> Strategy:
+        kind = self._kind
+        token = self.take()
+        if kind == "number":
+            return Strategy("child", token, (self._in_brackets(),))
+        if token == "?":
+            return Strategy("match", "", (), (self._pattern(),))
+        if token == "!":
+            return Strategy("build", "", (), (self._pattern(),))
+        if token == "<":
+            inner = self.strategy()
+            self.take(">")
+            return Strategy("applied", "", (inner,), (self._pattern(),))
+        if token == "\\":
+            rule = self._rule()
+            self.take("\\")
+            return rule._replace(kind="closure")
+        if token == "{":
+            variables = self._terms(":")
+            inner = self.strategy()
+            self.take("}")
+            return Strategy("scope", "", (inner,), variables)
+        if token == "[":
+            return self._list()
+        if token == "(":
+            parts = self._strategies(")")
+            return parts[0] if len(parts) == 1 else Strategy("congruence", TUPLE, parts)
+        if kind == "word":
+            return self._named(token)
+        raise NoStrategy(f"no strategy begins with {token}")
+
+    def _in_brackets(self) -> Strategy:
+        self.take("(")
+        found = self.strategy()
+        self.take(")")
+        return found
+
+    def _strategies(self, end: str) -> tuple[Strategy, ...]:
+        found: list[Strategy] = []
+        while not self._taken(end):
+            found.append(self.strategy())
+            if self._next != end:
+                self.take(",")
+        return tuple(found)
+
+    def _list(self) -> Strategy:
+        found: list[Strategy] = []
+        while not self._taken("]"):
+            if self._taken("|"):
+                tail = self.strategy()
+                self.take("]")
+                return Strategy("tail", LIST, (*found, tail))
+            found.append(self.strategy())
+            if self._next not in ("]", "|"):
+                self.take(",")
+        return Strategy("congruence", LIST, tuple(found))
+
+    def _named(self, name: str) -> Strategy:
+        if name in ("id", "fail"):
+            return Strategy(name)
+        if name in _OF_ONE:
+            return Strategy(_OF_ONE[name], "", (self._in_brackets(),))
+        if name == "if":
+            first = self.strategy()
+            self.take("then")
+            then = self.strategy()
+            other = self.strategy() if self._taken("else") else Strategy("id")
+            self.take("end")
+            return Strategy("guard", "", (Strategy("where", "", (first,)), then, other))
+        if name == "rec":
+            return Strategy("rec", self._word(), (self._in_brackets(),))
+        if name in ("then", "else", "end", "where", "prim"):
+            if name != "prim":
+                raise NoStrategy(name)
+            self.take("(")
+            self.take()
+            self._terms()
+            return Strategy("prim")
+        parts: list[Strategy] = []
+        terms: tuple[Pattern, ...] = ()
+        if self._taken("("):
+            while not self._taken(")"):
+                if self._taken("|"):
+                    terms = self._terms()
+                    break
+                parts.append(self.strategy())
+                if self._next not in (")", "|"):
+                    self.take(",")
+        return Strategy("call", name, tuple(parts), terms)
+
+    # Terms up to the bracket that closes them.
+    def _terms(self, end: str = ")") -> tuple[Pattern, ...]:
+        found: list[Pattern] = []
+        while not self._taken(end):
+            if not self._taken(",") and not self._taken("|"):
+                found.append(self._pattern())
+        return tuple(found)
+
+    def _pattern(self) -> Pattern:
+        kind = self._kind
+        token = self.take()
+        if kind == "string":
+            head = read(token).head
+            found = Pattern("string", head if isinstance(head, bytes) else b"")
+        elif kind == "number":
+            found = Pattern("integer")
+        elif token == "(":
+            found = Pattern("constructor", TUPLE, self._terms())
+        elif token == "[":
+            found = self._list_pattern()
+        elif kind != "word":
+            raise NoStrategy(f"no pattern begins with {token}")
+        elif self._taken("("):
+            found = Pattern("constructor", token, self._terms())
+        elif self._taken("@"):
+            return Pattern("other", "", (self._pattern(),))
+        else:
+            found = Pattern("other") if token == "_" else Pattern("variable", token)
+        if self._taken("{"):
+            self._terms("}")
+            # a variable is bound to the term without its annotations
+            return Pattern("other") if found.kind == "variable" else Pattern("other", "", (found,))
+        return found
+
+    def _list_pattern(self) -> Pattern:
+        found: list[Pattern] = []
+        while not self._taken("]"):
+            if self._taken("|"):
+                self._pattern()
+                self.take("]")
+                return Pattern("other", "", (Pattern("constructor", LIST, tuple(found)),))
+            if not self._taken(","):
+                found.append(self._pattern())
+        return Pattern("constructor", LIST, tuple(found))
