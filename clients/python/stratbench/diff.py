@@ -16,6 +16,7 @@ The edits say where something changed. Lines are compared there, and only there.
 from __future__ import annotations
 
 import difflib
+import os
 import re
 from bisect import bisect_right
 from collections.abc import Iterator, Sequence
@@ -30,13 +31,27 @@ _MOST_DIFFERING: Final = 400
 _MOST_TOGETHER: Final = 400
 
 
+# What has to be quoted in a name: else a line feed in it would begin another line of the diff.
+_CONTROL: Final = re.compile(rb'[\x00-\x1f"\\\x7f]')
+_ESCAPES: Final = {b'"': b'\\"', b"\\": b"\\\\", b"\n": b"\\n", b"\t": b"\\t", b"\r": b"\\r"}
+
+
+# A file's name as git has it in diffs, which patch reads, too.
+def _quoted(name: str) -> bytes:
+    text = os.fsencode(name)
+    if not _CONTROL.search(text):
+        return text
+    return b'"%s"' % _CONTROL.sub(lambda it: _ESCAPES.get(it[0], b"\\%03o" % it[0][0]), text)
+
+
 def unified(name: str, text: bytes, edits: Sequence[Edit]) -> bytes:
     """Returns the unified diff of a text and the text with the edits, which are in order and apart; nothing for none."""
     lines = re.findall(rb"[^\n]*\n|[^\n]+", text)
     changes = _changes(text, lines, edits)
     if not changes:
         return b""
-    out = [f"--- {name}\n+++ {name}\n".encode(errors="surrogateescape")]
+    shown = _quoted(name)
+    out = [b"--- %s\n+++ %s\n" % (shown, shown)]
     group: list[tuple[int, int, list[bytes]]] = []
     shift = 0
     for change in changes:

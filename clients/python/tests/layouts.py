@@ -24,7 +24,7 @@ import sys
 import tempfile
 from typing import NamedTuple
 
-from stratbench import outcomes, python, refactor
+from stratbench import rewriting, python, refactor
 from stratbench.patch import Unwritable
 
 
@@ -75,7 +75,7 @@ def fault_of(case, source, result):
         return f"refused: {result}"
     new = refactor.exchange(source.term, result)
     try:
-        found = outcomes.with_comments(source, result) if case.keep else outcomes.rewritten(source, new)
+        found = rewriting.with_comments(source, result) if case.keep else rewriting.rewritten(source, new)
     except Unwritable as error:
         return f"unwritable: {error}"
     lost = [f"{source.lines.number(it.first)}: {it.text}" for it in found.lost]
@@ -83,7 +83,7 @@ def fault_of(case, source, result):
         return f"{found.text.decode()}wanted\n{case.after}"
     if lost != case.lost:
         return f"lost are {lost}, wanted {case.lost}"
-    shadowed = [f"{line}: {name}" for name, line in outcomes.shadows(source, new)]
+    shadowed = [f"{line}: {name}" for name, line in rewriting.shadows(source, new)]
     return "" if shadowed == case.shadowed else f"shadowed are {shadowed}, wanted {case.shadowed}"
 
 

@@ -10,7 +10,7 @@ import sys
 import tokenize
 from collections import Counter
 
-from stratbench import changes, outcomes, python
+from stratbench import changes, rewriting, python
 from stratbench.patch import apply_edits, patch_of, patched
 from stratbench.patch.edits import BLOCKS, EXPRESSIONS, STATEMENTS, normal
 from stratbench.terms import LIST, Term, string
@@ -181,7 +181,7 @@ def kept(source, new):
         groups = changes.changes_of(source.term, {(): new})
         if changes.changed(source.term, [it for group in groups for it in group]) != new:
             return "the changes don't lead to the new tree"
-        left = outcomes.with_comments(source, {(): new})
+        left = rewriting.with_comments(source, {(): new})
         return "" if comments_of(left.text) == before else "a comment is lost, though places are left"
 
 

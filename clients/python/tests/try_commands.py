@@ -1,12 +1,16 @@
 """The command `python -m stratbench.refactor`: what it prints, what it writes, and its status."""
 
+import json
 import os
+import pty
+import re
 import shutil
 import subprocess
 import sys
 import tempfile
 
 from stratbench import refactor
+from stratbench.refactor import task as bounds
 
 RULES = """module used
 rules
@@ -17,8 +21,12 @@ EVERY = "topdown(try(Old <+ Wrong))"
 HUNK = "--- a.py\n+++ a.py\n@@ -1,3 +1,3 @@\n # \u00e9\n-old\n+new\n b\n"
 
 
+# The last line of a run, on standard error.
+SUMMARY = re.compile(r"^[0-9,]+ of [0-9,]+ files? (?:changed|would change)\b.*\n\Z", re.MULTILINE)
+
+
 class Room:
-    """A folder with files, in which the command is run."""
+    """A folder with files, in which the command is run. `summary` is the last line of the last run, which isn't among what it said."""
 
     def __init__(self, top, **files):
         self.top, self.folder = top, tempfile.mkdtemp(prefix="stratbench-")
@@ -41,9 +49,16 @@ class Room:
         if modules is None:
             modules = ["--module", f"python={self.top}/strategies/python.str", "--module", "rules=rules.str"]
         command = [sys.executable, "-m", "stratbench.refactor", *modules, "--do", strategy, *words]
-        environment = {**os.environ, "PYTHONPATH": f"{self.top}/clients/python"}
+        environment = {**os.environ, "PYTHONPATH": f"{self.top}/clients/python", "XDG_STATE_HOME": f"{self.folder}/state"}
         ran = subprocess.run(command, cwd=self.folder, env=environment, capture_output=True)
-        return ran.returncode, ran.stdout.decode("utf-8", "replace"), ran.stderr.decode()
+        said = ran.stderr.decode()
+        found = SUMMARY.search(said)
+        self.summary = found[0].rstrip("\n") if found else ""
+        return ran.returncode, ran.stdout.decode("utf-8", "replace"), SUMMARY.sub("", said)
+
+    def files(self):
+        """The names of all that is there, but for the folder of journals, which is empty."""
+        return sorted(it for it in os.listdir(self.folder) if it != "state" or os.listdir(f"{self.folder}/state/stratbench"))
 
 
 def wanted(got, status, out=None, said=""):
@@ -53,6 +68,14 @@ def wanted(got, status, out=None, said=""):
 
 
 A = "# \u00e9\nold\nb\n"
+
+# Strategies that are none, and what is said of them.
+STRATEGIES = [
+    ("id; ", "refused 10 syntax: the strategy ends too early: it can't end with `;` at line 1, column 3\n    id; \n      ^"),
+    (")", "refused 10 syntax: no strategy begins with `)` at line 1, column 1\n    )\n    ^"),
+    ("id\n)", "refused 10 syntax: no strategy goes on with `)` at line 2, column 1\n    )\n    ^"),
+    ("", "refused 10 syntax: the strategy is missing"),
+]
 
 
 def tests(top, everything):
@@ -68,6 +91,8 @@ def tests(top, everything):
     yield "a strategy that is none", wanted(room.run("a.py", strategy="topdown(try(Odl))"), 2, "", "there is `Old`") and wanted(
         room.run("a.py", strategy="topdown(try(Odl))"), 2, "", "--do: refused 11 unknown Odl 0 0"
     )
+    for strategy, said in STRATEGIES:
+        yield f"--do '{strategy}'", wanted(room.run("a.py", strategy=strategy), 2, "", f"--do: {said}\n")
     yield "a module that is none", module_fault(top)
     yield "no --do", "" if refactor_status(top, ["a.py"]) == 2 else "another status"
     yield from writing(top)
@@ -75,7 +100,9 @@ def tests(top, everything):
     yield from encodings(top)
     yield from messages(top)
     yield from starts(top)
-    yield from bounds(top)
+    yield from limits(top)
+    yield from summaries(top)
+    yield from named(top)
     got = Room(top, a="x = x + 1\n").run("--modules", f"{top}/strategies", "a.py", strategy="bottomup(try(AugmentedNumber))", modules=())
     yield "--modules loads a folder", wanted(got, 0, "--- a.py\n+++ a.py\n@@ -1 +1 @@\n-x = x + 1\n+x += 1\n")
     many = {f"f{at}": f"old\n{at}\n" for at in range(40)}
@@ -83,7 +110,7 @@ def tests(top, everything):
     names = [f"{name}.py" for name in many]
     one, two = room.run(*names), room.run("--jobs", "3", *names)
     yield "--jobs gives the same", "" if one == two and one[0] == 0 and one[1].count("+new") == 40 else f"{one}\n{two}"
-    room.put("ends", f'#!/bin/sh\ncase "$*" in *--tree*) kill -9 $PPID ;; esac\nexec {os.environ["STRATBENCH"]} "$@"\n')
+    room.put("ends", f'#!/bin/sh\ncase "$*" in *t1=*) kill -9 $PPID ;; esac\nexec {os.environ["STRATBENCH"]} "$@"\n')
     os.chmod(f"{room.folder}/ends", 0o755)
     got = room.run("--jobs", "2", "--write", "--program", "./ends", *names)
     yield "a process of --jobs that ends", wanted(got, 3, "", "nothing was written: a process ended") or ("" if room.has(names[0]) == many["f0"] else "a file changed")
@@ -109,7 +136,7 @@ def writing(top):
     files = [room.has("a.py"), room.has("b.py"), room.has("latin.py")]
     want = [A.replace("old", "new"), "x = new  # b\n", "# coding: latin-1\n'\u00e9'; new\n"]
     kept = os.stat(f"{room.folder}/a.py").st_mode & 0o777 == 0o755 and os.path.islink(f"{room.folder}/link.py")
-    left = sorted(os.listdir(room.folder)) == "a.py b.py broken.py latin.py link.py rules.str".split()
+    left = room.files() == "a.py b.py broken.py latin.py link.py rules.str".split()
     yield "--write changes the files, and leaves a broken one", "" if got[0] == 3 and files == want and kept and left else f"{got} {files}"
     room = Room(top, a=A, wrong="old; wrong\n")
     got = room.run("--write", "a.py", "wrong.py")
@@ -120,13 +147,6 @@ def writing(top):
     got = room.run("--write", "a.py", "fixed.py")
     fault = wanted(got, 3, None, "nothing was written: fixed.py: it may not be written")
     yield "a file that may not be written leaves all", fault or ("" if room.has("a.py") == A else "a file changed")
-    yield "a fault while writing leaves all", half_written(top)
-    room = Room(top, a=A)
-    try:
-        refactor.write_all([(f"{room.folder}/a.py", b"other", b"new")])
-        yield "a file that changed meanwhile is left", "it was written"
-    except refactor.WriteFault:
-        yield "a file that changed meanwhile is left", "" if room.has("a.py") == A else "it was written"
     shutil.rmtree(room.folder)
 
 
@@ -140,12 +160,12 @@ def comments(top):
     yield "comments that are lost are named", fault or ("" if room.has("t.py") == new and got[2].count("\n") == 2 else f"{got} {room.has('t.py')}")
     room.put("t.py", text)
     got = room.run("--write", "--keep-comments", "t.py", strategy=flat)
-    fault = wanted(got, 0, None, "t.py:1: left, since a comment would be lost: # one\nt.py:5: left, since a comment would be lost: # three\n")
+    fault = wanted(got, 3, None, "t.py:1: left, since a comment would be lost: # one\nt.py:5: left, since a comment would be lost: # three\n")
     new = text.replace("try:\n    b()", "with F:\n    b()").replace("except F:\n    pass\n", "")
     yield "--keep-comments leaves their places", fault or ("" if room.has("t.py") == new else room.has("t.py"))
     room.put("t.py", "gone()  # gone\nold\n")
     got = room.run("--write", "--keep-comments", "t.py", strategy="Module(\\ [_|ss] -> ss \\,id)")
-    yield "--keep-comments may leave all", wanted(got, 0, "", "t.py:1: left, since a comment would be lost: # gone\n")
+    yield "--keep-comments may leave all", wanted(got, 3, "", "t.py:1: left, since a comment would be lost: # gone\n")
 
 
 def encodings(top):
@@ -176,15 +196,16 @@ def messages(top):
 
 
 def starts(top):
-    """The program is started once for a few files, and explains only what is refused."""
+    """The program is started once to look at the modules and the strategy and once for a few files, and explains only what is refused."""
     room = Room(top, a=A, same="b\n", broken="def\n")
     room.put("logs", f'#!/bin/sh\necho "$*" >>log\nexec {os.environ["STRATBENCH"]} "$@"\n')
     os.chmod(f"{room.folder}/logs", 0o755)
     for title, strategy, words in [
-        ("the program is started once", EVERY, ["run"]),
-        ("what is refused is explained", "sometd(Old)", ["run", "explain"]),
+        ("the program is started once for the files", EVERY, ["run", "run"]),
+        ("what is refused is explained", "sometd(Old)", ["run", "run", "explain"]),
         ("a wrong strategy is explained", "Odl", ["run", "explain"]),
-        ("where nothing is done, warnings are asked for", "try(fail)", ["run", "explain"]),
+        ("where nothing is done, warnings are asked for", "try(!Pass(); fail)", ["run", "run", "explain"]),
+        ("what surely changes nothing isn't run", "try(fail)", ["run", "explain"]),
     ]:
         room.put("log", "")
         room.run("--program", "./logs", "a.py", "same.py", strategy=strategy)
@@ -197,34 +218,13 @@ def starts(top):
     yield "and where all fail, once", wanted(got, 3, "", "rules.str: warning: in `R`") or ("" if got[2].count("warning") == 1 else got[2])
 
 
-def half_written(top):
-    room = Room(top, a="old\n", b="old\n")
-    replace, calls = os.replace, []
-
-    def failing(source, target):
-        calls.append(target)
-        if len(calls) == 2:
-            raise OSError(5, "no disk")
-        replace(source, target)
-
-    os.replace = failing
-    try:
-        refactor.write_all([(f"{room.folder}/{it}.py", b"old\n", b"new\n") for it in "ab"])
-        return "it was written"
-    except refactor.WriteFault:
-        left = sorted(os.listdir(room.folder))
-        return "" if room.has("a.py") == room.has("b.py") == "old\n" and left == ["a.py", "b.py", "rules.str"] else f"{left}"
-    finally:
-        os.replace = replace
-
-
-def bounds(top):
+def limits(top):
     room = Room(top, a=A)
     room.put("deep.py", " + ".join(["a"] * 1_500) + "\n")
     yield "a tree that is too deep", wanted(room.run("deep.py", "a.py"), 3, HUNK, "deep.py: too deep: ")
-    most, refactor.MOST_TERMS = refactor.MOST_TERMS, 20
+    most, bounds.MOST_TERMS = bounds.MOST_TERMS, 20
     [outcome] = refactor.refactored([("a.py", b"x = y + 1\n")], refactor.Task((), "id"))
-    refactor.MOST_TERMS = most
+    bounds.MOST_TERMS = most
     yield "a tree that is too large", "" if outcome.left.startswith("a.py: too large: ") else f"{outcome}"
     # the limits by default are 100,000 terms and 1,000,000 steps
     room.put("wide.py", f"a = [{', '.join(['1'] * 30_000)}, old]\n")
@@ -241,3 +241,81 @@ def bounds(top):
     yield "a budget out of range", "" if refactor_status(top, ["--within", "4000000001", "--do", "id", "a.py"]) == 2 else "another status"
     got = room.run("steps.py", "a.py", strategy="?Module(x,y); !Module(y,x); fail")
     yield "a strategy that fails", wanted(got, 3, "", "a.py: refused 12 fails: ")
+
+
+def summaries(top):
+    text = "try:  # one\n    old\nexcept E:\n    pass\n"
+    room = Room(top, a=A, b="old; x = (old,\n old)\n", same="b\n", broken="def\n", t=text)
+    room.run("a.py", "b.py", "same.py")
+    yield "the summary", "" if room.summary == "2 of 3 files would change, 4 places" else room.summary
+    got = room.run("--write", "--report", "report.json", "a.py", "b.py", "same.py", "broken.py", "none.py")
+    yield "the summary of what was written", "" if room.summary == "2 of 5 files changed, 4 places; 2 files left" else room.summary
+    with open(f"{room.folder}/report.json") as it:
+        report = json.load(it)
+    entry = {"changed": False, "places": [], "lost": [], "kept": [], "left": None}
+    place = {"rule": None}
+    want = {
+        "version": 1,
+        "status": 3,
+        "written": True,
+        "counts": {"files": 5, "changed": 2, "places": 4, "lost": 0, "kept": 0, "left": 2},
+        "files": [
+            {**entry, "file": "a.py", "changed": True, "places": [{**place, "line": 2}]},
+            {**entry, "file": "b.py", "changed": True, "places": [{**place, "line": it} for it in (1, 1, 2)]},
+            {**entry, "file": "broken.py", "left": "broken.py:1: no Python: invalid syntax"},
+            {**entry, "file": "none.py", "left": "none.py: No such file or directory"},
+        ],
+    }
+    yield "--report", "" if got[0] == 3 and report == want else f"{got} {report}"
+    flat = "topdown(try(\\ Try(b,[ExceptHandler(e,None(),[Pass()])],[],[]) -> With([withitem(e,None())],b,None()) \\))"
+    for words, summary, lost, kept in (
+        ((), "1 of 1 file would change, 1 place; 1 comment would be lost", [{"line": 1, "comment": "# one"}], []),
+        (("--keep-comments",), "0 of 1 file would change; places left for 1 comment", [], [{"line": 1, "comment": "# one"}]),
+    ):
+        room.run("--report", "report.json", *words, "t.py", strategy=flat)
+        with open(f"{room.folder}/report.json") as it:
+            [file] = json.load(it)["files"]
+        yield f"the summary of comments {words}", "" if room.summary == summary and (file["lost"], file["kept"]) == (lost, kept) else f"{room.summary} {file}"
+    got = room.run("--report", "none/report.json", "same.py")
+    yield "a report that can't be written", wanted(got, 3, "", "--report none/report.json: No such file or directory\n")
+    room.put("a.py", A)
+    got = room.run("--profile", "a.py")
+    steps = re.search(r"^steps: `try` ([0-9,]+), .*`Old` ([0-9,]+)", got[2], re.MULTILINE)
+    yield "--profile", "" if got[0] == 0 and steps and re.search(r"^seconds: reading files [0-9.]+, the workbench [0-9.]+, making patches [0-9.]+$", got[2], re.MULTILINE) else f"{got}"
+    yield "a line of progress on a terminal", progress(room)
+    room.close()
+
+
+def progress(room):
+    """Runs the command with standard error on a terminal, and standard output on none."""
+    shown, terminal = pty.openpty()
+    command = [sys.executable, "-m", "stratbench.refactor", "--do", "id", *["same.py"] * 40]
+    environment = {**os.environ, "PYTHONPATH": f"{room.top}/clients/python", "XDG_STATE_HOME": f"{room.folder}/state"}
+    ran = subprocess.run(command, cwd=room.folder, env=environment, stdout=subprocess.PIPE, stderr=terminal)
+    os.close(terminal)
+    said = b""
+    try:
+        while more := os.read(shown, 1 << 16):
+            said += more
+    except OSError:
+        # the other end is closed
+        pass
+    os.close(shown)
+    line = rb"\r1 of 40 files(\r[0-9]+ of 40 files)*\r +\r0 of 40 files would change\r\n"
+    return "" if ran.returncode == 0 and not ran.stdout and re.fullmatch(line, said) else f"{said}"
+
+
+# Names of files that a diff has in quotes, so that they can't be taken for more than a name.
+NAMES = ["a\nb.py", "a\tb.py", 'a"b.py', "a\\b.py", "a\x7f.py", "\u00e9\r.py"]
+
+
+def named(top):
+    for name in NAMES:
+        room = Room(top)
+        room.put(name, A)
+        got = room.run(name)
+        ran = subprocess.run(["patch", "-p0"], cwd=room.folder, input=got[1].encode(), capture_output=True, text=False)
+        files = sorted(it for it in os.listdir(room.folder) if it.endswith(".py"))
+        right = files == [name] and ran.returncode == 0 and room.has(name) == A.replace("old", "new")
+        yield f"the diff of the file {name!r}", "" if right else f"{got} {ran}"
+        room.close()

@@ -117,13 +117,14 @@ def commands(top):
         os.symlink(f"{top}/strategies", f"{room}/strategies")
         os.mkdir(f"{room}/bin")
         os.symlink(sys.executable, f"{room}/bin/python")
-        environment = {**os.environ, "PYTHONPATH": f"{top}/clients/python", "PATH": f"{room}/bin:{os.environ['PATH']}"}
+        environment = {**os.environ, "PYTHONPATH": f"{top}/clients/python", "PATH": f"{room}/bin:{os.environ['PATH']}", "XDG_STATE_HOME": f"{room}/state"}
         for found in re.finditer(r"^```(?:console\n\$ (?P<command>[^\n]*)\n(?P<wanted>.*?)|\w+ (?P<file>\S+)\n(?P<text>.*?))^```$", page, re.MULTILINE | re.DOTALL):
             if found["file"]:
                 with open(f"{room}/{found['file']}", "w") as it:
                     it.write(found["text"])
                 continue
-            ran = subprocess.run(["bash", "-c", found["command"]], cwd=room, env=environment, capture_output=True, text=True)
-            yield found["command"], "" if ran.stdout == found["wanted"] and not ran.stderr else ran.stdout + ran.stderr
+            # in the order in which a terminal shows it
+            ran = subprocess.run(["bash", "-c", found["command"]], cwd=room, env=environment, stdout=subprocess.PIPE, stderr=subprocess.STDOUT, text=True)
+            yield found["command"], "" if ran.stdout == found["wanted"] else ran.stdout
         with open(f"{room}/shop.py") as it:
             yield "--write wrote the file", "" if "few\n    @staticmethod\n" in it.read() else "it didn't"

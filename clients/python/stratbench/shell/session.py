@@ -166,8 +166,8 @@ class Session:
     def profile(self, command: str) -> str:
         """Returns where the steps of a `preview` go. It runs in a session of its own, with the trees and modules of this one."""
         trees, modules = self.ask(_contents)
-        options = [*self._start.get("options", ()), "--profile"]
-        with Stratbench(**{**self._start, "library": False, "options": options}) as bench:
+        start: dict[str, Any] = {**self._start, "library": False, "options": [*self._start.get("options", ()), "--profile"]}
+        with Stratbench(**start) as bench:
             for name, tree in trees.items():
                 bench.tree(name, tree)
             with bench.group():

@@ -58,12 +58,12 @@ def _owner_of(source: Source, groups: Sequence[Sequence[Change]], comment: Token
 def _span(source: Source, change: Change) -> tuple[int, int]:
     spans = [found for it in change.goes(source.term) if (found := position(it)) is not None]
     if not spans:
-        spans = [found for it in _up(source.term, change.path) if (found := position(it)) is not None][:1]
+        spans = [found for it in up(source.term, change.path) if (found := position(it)) is not None][:1]
     return (spans[0][0], spans[-1][1]) if spans else (0, len(source.text))
 
 
-# The subterm at a path and those above it, from it on.
-def _up(term: Term, path: Path) -> list[Term]:
+def up(term: Term, path: Path) -> list[Term]:
+    """Returns the subterm at a path and those above it, from it on."""
     found = [term]
     for step in path:
         found.append(found[-1].children[step])

@@ -1,0 +1,226 @@
+"""The command line: what was asked for is done, and said."""
+
+from __future__ import annotations
+
+import argparse
+import contextlib
+import os
+import signal
+import sys
+from collections.abc import Iterator, Sequence
+from types import FrameType
+
+from ..cluster import Lost, Unreachable
+from . import files
+from .batches import outcomes
+from .report import Left, Progress, Tally, counted, said
+from .runs import NoProgram, check_texts, prepared
+from .task import MOST_STEPS, Task
+from .writing import STOPPING, Stopped, WriteFault, recover, write_all
+
+# The files that are taken of a folder.
+_SUFFIX = ".py"
+
+
+def main(words: Sequence[str] | None = None) -> int:
+    """Runs the command, and returns its status."""
+    given = _arguments(words)
+    try:
+        with _stopping():
+            return _done(given)
+    except Stopped as error:
+        print(f"nothing was written: {error}", file=sys.stderr)
+        # whoever started this sees what ended it
+        signal.signal(error.number, signal.SIG_DFL)
+        os.kill(os.getpid(), error.number)
+        return 128 + error.number
+
+
+# Has a signal raise `Stopped`, so that what was begun is taken away.
+@contextlib.contextmanager
+def _stopping() -> Iterator[None]:
+    def stop(number: int, frame: FrameType | None) -> None:
+        raise Stopped(number)
+
+    before = {}
+    with contextlib.suppress(ValueError):
+        for it in STOPPING:
+            # one that is ignored, as by nohup, still is
+            if signal.getsignal(it) is not signal.SIG_IGN:
+                before[it] = signal.signal(it, stop)
+    try:
+        yield
+    finally:
+        for number, handler in before.items():
+            signal.signal(number, handler)
+
+
+def _arguments(words: Sequence[str] | None) -> argparse.Namespace:
+    parser = argparse.ArgumentParser(
+        prog="python -m stratbench.refactor",
+        description="Refactors files of Python by a strategy, with small patches.",
+        epilog="Status: 0; 1 with --check where something would change; 2 for a wrong command line, module or strategy; "
+        "3 where a file or a place was left, or files couldn't be written.",
+    )
+    parser.add_argument("--module", action="append", default=[], metavar="NAME=FILE", help="load a module of strategies")
+    parser.add_argument("--modules", action="append", default=[], metavar="FOLDER", help="load the modules of a folder, as strategies")
+    parser.add_argument("--do", metavar="STRATEGY", help="the strategy that is applied to each file's tree")
+    parser.add_argument("--within", type=int, metavar="K", help="the most steps that it may take, else 300 a term, and 1,000,000 at least")
+    parser.add_argument("--keep-comments", action="store_true", help="leave places as they are where a comment would be lost")
+    where = parser.add_mutually_exclusive_group()
+    where.add_argument("--jobs", type=int, default=1, metavar="N", help="do the files in N processes side by side")
+    where.add_argument("--cluster", metavar="ADDRESS", help="do the files on the workers of the Dask cluster with this scheduler")
+    parser.add_argument("--program", metavar="FILE", help="stratbench, where it isn't in PATH or STRATBENCH")
+    parser.add_argument("--report", metavar="FILE", help="write what was done to a file, as JSON")
+    parser.add_argument("--profile", action="store_true", help="say where the steps and the time went")
+    how = parser.add_mutually_exclusive_group()
+    how.add_argument("--write", action="store_true", help="change the files, all or none")
+    how.add_argument("--check", action="store_true", help="end with status 1 where something would change")
+    how.add_argument("--recover", action="store_true", help="put back what a run left that was killed while it wrote, and do nothing else")
+    parser.add_argument("files", nargs="*", metavar="FILES", help="files, or folders with files *.py in them")
+    found = parser.parse_args(words)
+    if not found.recover and (found.do is None or not found.files):
+        parser.error(f"{'--do' if found.do is None else 'FILES'} is missing")
+    if found.jobs < 1 or found.within is not None and not 1 <= found.within <= MOST_STEPS:
+        parser.error(f"--jobs is at least 1, and --within from 1 to {MOST_STEPS}")
+    return found
+
+
+def _done(given: argparse.Namespace) -> int:
+    left = _recovered()
+    if given.recover:
+        return 3 if left else 0
+    try:
+        task = _task(given)
+    except ValueError as error:
+        print(error, file=sys.stderr)
+        return 2
+    try:
+        return _refactored(given, task)
+    except (Unreachable, NoProgram) as error:
+        print(error, file=sys.stderr)
+        return 2
+    except Lost as error:
+        print(f"not all files were done, and nothing was written: {error}", file=sys.stderr)
+        return 3
+
+
+# Puts back what a run left that was killed, and says so. Returns whether something couldn't be put back.
+def _recovered() -> bool:
+    found = recover()
+    for names, what in ((found.back, "put back"), (found.finished, "as that run wrote them")):
+        if names:
+            print(f"a run was killed while it wrote: {counted(len(names), 'file')} {what}: {', '.join(names)}", file=sys.stderr)
+    for it in found.left:
+        print(f"a run was killed while it wrote: {it}", file=sys.stderr)
+    return bool(found.left)
+
+
+# The modules of a folder, as words NAME=FILE.
+def _folder(folder: str) -> list[str]:
+    return [f"{it[: -len('.str')]}={folder}/{it}" for it in sorted(os.listdir(folder)) if it.endswith(".str")]
+
+
+def _task(given: argparse.Namespace) -> Task:
+    modules, names = [], []
+    words: list[str] = []
+    for folder in given.modules:
+        try:
+            words += _folder(folder)
+        except OSError as error:
+            raise ValueError(f"--modules {folder}: {error.strerror}") from None
+    for word in [*words, *given.module]:
+        name, equals, file = word.partition("=")
+        if not equals:
+            raise ValueError(f"--module: no NAME=FILE: {word}")
+        try:
+            with open(file, "rb") as it:
+                modules.append((name, it.read()))
+        except OSError as error:
+            raise ValueError(f"--module {word}: {error.strerror}") from None
+        names.append(file)
+    return Task(tuple(modules), given.do, given.within, given.program, tuple(names), given.keep_comments, given.profile)
+
+
+# Where the modules or the strategy are wrong, says why.
+def _wrong_texts(task: Task) -> bool:
+    wrong, warnings = check_texts(task)
+    if wrong:
+        print(*warnings, wrong, sep="\n", file=sys.stderr)
+    return bool(wrong)
+
+
+def _refactored(given: argparse.Namespace, task: Task) -> int:
+    try:
+        known = prepared(task)
+    except NoProgram:
+        # only the workers may have it
+        if given.cluster is None:
+            raise
+        known = task
+    if known is None and _wrong_texts(task):
+        return 2
+    task = known or task
+    contents = list(files.read(files.found(given.files, _SUFFIX)))
+    work = [(name, it) for name, it in contents if isinstance(it, bytes)]
+    tally = Tally([Left(name, f"{name}: {it}") for name, it in contents if isinstance(it, str)])
+    for it in tally.unread:
+        print(it.why, file=sys.stderr)
+    if not _shown(given, task, work, tally):
+        return 2
+    written = given.write and _written(work, tally)
+    status = 3 if tally.left or tally.comments(left=True) or given.write and not written else 1 if given.check and tally.changed else 0
+    if given.profile:
+        print(tally.profile(), file=sys.stderr)
+    print(tally.summary(written), file=sys.stderr)
+    if given.report is not None:
+        try:
+            with open(given.report, "w") as out:
+                out.write(tally.report(status, written))
+        except OSError as error:
+            print(f"--report {given.report}: {error.strerror}", file=sys.stderr)
+            return 3
+    return status
+
+
+# Shows what comes of each file. Returns false where the modules or the strategy are wrong.
+def _shown(given: argparse.Namespace, task: Task, work: list[tuple[str, bytes]], tally: Tally) -> bool:
+    progress = Progress(len(work))
+    checked = False
+    told: set[str] = set()
+    for outcome in outcomes(work, task, given.jobs, given.cluster):
+        tally.outcomes.append(outcome)
+        lines = said(outcome)
+        if outcome.diff or lines:
+            progress.clear()
+        if outcome.of_texts and not checked:
+            checked = True
+            if _wrong_texts(task):
+                return False
+        sys.stdout.buffer.write(outcome.diff)
+        sys.stdout.buffer.flush()
+        for line in lines:
+            # the warnings of a module once
+            if line not in told:
+                print(line, file=sys.stderr)
+                told.add(line)
+        progress.done(len(tally.outcomes))
+    progress.clear()
+    if not tally.left and not tally.changed and not given.check:
+        # nothing was done: a warning may say why
+        for warning in check_texts(task)[1]:
+            print(warning, file=sys.stderr)
+    return True
+
+
+# Writes what changes. Returns false where nothing was written.
+def _written(work: list[tuple[str, bytes]], tally: Tally) -> bool:
+    fault = next((f"{it.name}: the result {it.fault}" for it in tally.outcomes if it.fault), "")
+    try:
+        if fault:
+            raise WriteFault(fault)
+        write_all([(name, before, it.contents) for (name, before), it in zip(work, tally.outcomes) if it.contents is not None])
+    except WriteFault as error:
+        print(f"nothing was written: {error}", file=sys.stderr)
+        return False
+    return True

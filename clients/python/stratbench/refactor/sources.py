@@ -1,0 +1,66 @@
+"""What comes of files of Python."""
+
+from __future__ import annotations
+
+import time
+from collections.abc import Sequence
+
+from ..python import Source, position
+from ..terms import deep
+from .outcomes import _outcome, _up
+from .runs import Result, budget, transformed
+from .task import MOST_TERMS, Outcome, Task
+
+# What the time goes to.
+READING, RUNNING, PATCHING = "reading files", "the workbench", "making patches"
+
+
+def refactored(work: Sequence[tuple[str, bytes]], task: Task) -> list[Outcome]:
+    """Returns what comes of files of these names and contents. Nothing is read or written but for files of its own."""
+    found: dict[int, Outcome] = {}
+    waiting: dict[int, Source] = {}
+    spent: dict[int, float] = {}
+    with deep():
+        for at, (name, contents) in enumerate(work):
+            begun = time.monotonic()
+            try:
+                source = Source(contents)
+                if _is_left(source, task):
+                    found[at] = Outcome(name)
+                else:
+                    # what is too deep is no source, either
+                    _ = source.shown
+                    waiting[at] = source
+            except SyntaxError as error:
+                place = f"{name}:{error.lineno}" if error.lineno else name
+                found[at] = Outcome(name, left=f"{place}: no Python: {error.msg}")
+            spent[at] = time.monotonic() - begun
+        begun = time.monotonic()
+        results = transformed(list(waiting.values()), task)
+        running = (time.monotonic() - begun) / max(1, len(waiting))
+        for (at, source), result in zip(waiting.items(), results):
+            begun = time.monotonic()
+            outcome = _changed(work[at][0], source, result, task) if result.replaced != {} else Outcome(work[at][0])
+            seconds = ((RUNNING, running), (PATCHING, time.monotonic() - begun))
+            found[at] = outcome._replace(steps=result.steps, seconds=seconds)
+    return [found[at]._replace(seconds=((READING, spent[at]), *found[at].seconds)) for at in range(len(work))]
+
+
+# Whether the strategy surely leaves a file as it is, so that the workbench needn't be asked.
+def _is_left(source: Source, task: Task) -> bool:
+    if task.needs is None or source.most_terms > MOST_TERMS:
+        return False
+    return task.needs.unmet(source, budget(task, source.least_terms))
+
+
+def _changed(name: str, source: Source, result: Result, task: Task) -> Outcome:
+    outcome = _outcome(name, source, result, task)
+    if outcome.contents is None:
+        return outcome
+    return outcome._replace(places=tuple(sorted(_line(source, path) for path in result.places)))
+
+
+# The line of a place: where the smallest node around it begins that has a position.
+def _line(source: Source, path: tuple[int, ...]) -> int:
+    found = next((place for it in _up(source.term, path) if (place := position(it)) is not None), (0, 0))
+    return source.lines.number(found[0])
