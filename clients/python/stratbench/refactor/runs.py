@@ -12,7 +12,7 @@ from itertools import repeat
 from typing import Final, NamedTuple, Protocol
 
 from ..places import Command, Text
-from ..terms import Shown, Term, exchange, height, items, read, shown
+from ..terms import Shown, Term, deep, exchange, height, items, read, shown
 from . import task as bounds
 from .needs import Needs
 from .task import MOST_LEVELS, MOST_STEPS, Task
@@ -58,7 +58,8 @@ class Result:
 
     @cached_property
     def new(self) -> Term | None:
-        return None if self.replaced is None else exchange(self.tree.term, self.replaced)
+        with deep():
+            return None if self.replaced is None else exchange(self.tree.term, self.replaced)
 
 
 class Explained(NamedTuple):

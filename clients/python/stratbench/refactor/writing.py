@@ -218,7 +218,8 @@ def _put_back(entries: Sequence[_Entry]) -> Recovered:
     kept = []
     for entry in entries:
         _seen()
-        if not os.path.lexists(entry.old):
+        # what isn't moved yet is beside its file
+        if os.path.lexists(entry.new) or not os.path.lexists(entry.old):
             continue
         now = _digest(_contents(entry.real)) if os.path.exists(entry.real) else entry.after
         if now == entry.after:
@@ -235,7 +236,8 @@ def _put_back(entries: Sequence[_Entry]) -> Recovered:
 # Takes away what is beside the files.
 def _clean(entries: Sequence[_Entry]) -> None:
     for entry in entries:
-        for name in (entry.new, entry.old):
+        # the new one last, since it says that nothing was moved
+        for name in (entry.old, entry.new):
             _seen()
             with contextlib.suppress(FileNotFoundError):
                 os.unlink(name)
