@@ -32,7 +32,7 @@ from types import TracebackType
 from typing import Final, NamedTuple, Union
 
 from .embedded import Embedded
-from .parts import Step, TooLong, in_parts
+from .parts import Step, TooLong, Unbalanced, in_parts
 from .places import Command, Text
 from .process import Process
 from .terms import NoTerm, Term, read, write
@@ -52,6 +52,8 @@ _PART: Final = 50_000
 _STEPS: Final = 100_000
 _MOST_STEPS: Final = 1_000_000
 _MOST_TERMS: Final = 100_000
+# The refusal of a text that spells no term.
+_NO_TERM: Final = 7
 
 
 class Refused(Exception):
@@ -414,19 +416,23 @@ class Stratbench:
         undone, redone = map(int, re.findall(r"\d+", self._answer("history")[0]))
         return undone, redone
 
-    # Gives a tree, or a subterm of one, in parts where it is too long for a command.
+    # Gives a tree, or a subterm of one, in parts where it is too long for a command. The text isn't read here.
     def _give(self, head: str, name: str, path: tuple[int, ...], given: TermText) -> None:
         text = Text(write(given) if isinstance(given, Term) else given, comments=False)
         if len(head) + len(text.sent) <= _MOST // 2 or len((head + text.sent).encode(errors="surrogateescape")) <= _MOST:
             self._answer(head, text)
             return
         try:
-            steps = list(in_parts(given if isinstance(given, Term) else read(given), path, _PART))
-        except NoTerm as error:
-            raise Refused("refused 7 term", str(error)) from None
+            self._give_steps(head.split(" ")[0], name, list(in_parts(text.sent, path, _PART)))
         except TooLong as error:
             raise Refused("refused 3 long", str(error)) from None
-        begins = head.split(" ")[0]
+        except (Unbalanced, Refused) as error:
+            # the places in what a part is refused for aren't those in the text
+            if isinstance(error, Unbalanced) or error.number == _NO_TERM:
+                _check(text.own)
+            raise
+
+    def _give_steps(self, begins: str, name: str, steps: list[Step]) -> None:
         if not self._grouped:
             with self.group():
                 self._give_parts(name, begins, steps)
@@ -494,6 +500,14 @@ class Stratbench:
                 lines.append(self._process.line(until))
             lines.pop()
         return lines
+
+
+# Says where a text spells no term.
+def _check(text: str) -> None:
+    try:
+        read(text)
+    except NoTerm as error:
+        raise Refused(f"refused {_NO_TERM} term", str(error)) from None
 
 
 # A line of `preview`: a path, the term that is there, and the one that would be there.

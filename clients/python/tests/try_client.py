@@ -114,7 +114,7 @@ def long_texts():
 def all_parts():
     for at, (_, term) in enumerate(LONG):
         whole = Term(0)
-        for kind, path, text in in_parts(term, (), 2_000 if at != 3 else 30_000):
+        for kind, path, text in in_parts(write(term), (), 2_000 if at != 3 else 30_000):
             old = whole
             for step in path:
                 old = old.children[step]
@@ -236,7 +236,7 @@ def stops():
 
 def tests(top, everything):
     # those of the other modules are run by tools/examples
-    for name in ("places", "parts", "shell.completion", "shell.lines", "shell.syntax", "shell.view"):
+    for name in ("places", "parts", "strategies", "refactor.needs", "refactor.report", "refactor.writing", "shell.completion", "shell.lines", "shell.syntax", "shell.view"):
         found = doctest.testmod(importlib.import_module(f"stratbench.{name}"))
         yield f"the examples of {name}", "" if found.attempted and not found.failed else f"{found}"
     yield from explained()
