@@ -241,10 +241,14 @@ class _Search:
 
     # Goes over the bodies of a definition until no more is found to come of it.
     def _again(self, key: _Key, bodies: list[tuple[Strategy, _Names]], depth: int) -> int:
-        it = self._open[key] = _Open(depth)
-        forms = self.forms
+        it = _Open(depth)
+        forms, met = self.forms, {other: other.met for other in self._open.values()}
+        self._open[key] = it
         while True:
+            # what was counted in the last turn doesn't come twice
             self.forms, it.met, found = forms + len(bodies), 0, 0
+            for other, count in met.items():
+                other.met = count
             for at, (body, names) in enumerate(bodies):
                 now = self.outcomes(body, names, depth)
                 found = found & ~_FAILS | now if at else now
