@@ -243,6 +243,16 @@ def limits(top):
     yield "a strategy that fails", wanted(got, 3, "", "a.py: refused 12 fails: ")
 
 
+# Strategies, with a text and the lines and rules of the places in its report.
+PLACES = [
+    ("topdown(try(Old))", A, [(2, "Old")]),
+    (EVERY, A, [(2, None)]),
+    # what comes of a list is told by what differs in it
+    ('topdown(try(\\ [Expr(Name("x",_)),y|r] -> [y,y,y|r] \\))', "if a:\n    x\n    y\n    z\n", [(2, None)]),
+    ('If(id,\\ [x,y|r] -> [x,y,y|r] \\,id)'.join(["Module([", "],id)"]), "if a:\n    x\n    y\n    z\n", [(4, None)]),
+]
+
+
 def summaries(top):
     text = "try:  # one\n    old\nexcept E:\n    pass\n"
     room = Room(top, a=A, b="old; x = (old,\n old)\n", same="b\n", broken="def\n", t=text)
@@ -267,6 +277,13 @@ def summaries(top):
         ],
     }
     yield "--report", "" if got[0] == 3 and report == want else f"{got} {report}"
+    for strategy, contents, places in PLACES:
+        room.put("p.py", contents)
+        room.run("--report", "report.json", "p.py", strategy=strategy)
+        with open(f"{room.folder}/report.json") as it:
+            [file] = json.load(it)["files"]
+        got = [(it["line"], it["rule"]) for it in file["places"]]
+        yield f"the places of `{strategy}`", "" if got == places else f"{got}"
     flat = "topdown(try(\\ Try(b,[ExceptHandler(e,None(),[Pass()])],[],[]) -> With([withitem(e,None())],b,None()) \\))"
     for words, summary, lost, kept in (
         ((), "1 of 1 file would change, 1 place; 1 comment would be lost", [{"line": 1, "comment": "# one"}], []),

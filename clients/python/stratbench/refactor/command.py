@@ -163,7 +163,8 @@ def _refactored(given: argparse.Namespace, task: Task) -> int:
     task = known or task
     contents = list(files.read(files.found(given.files, _SUFFIX)))
     work = [(name, it) for name, it in contents if isinstance(it, bytes)]
-    tally = Tally([Left(name, f"{name}: {it}") for name, it in contents if isinstance(it, str)])
+    unread = [Left(name, f"{name}: {it}") for name, it in contents if isinstance(it, str)]
+    tally = Tally(unread, task.needs.rule() if task.needs is not None else None)
     for it in tally.unread:
         print(it.why, file=sys.stderr)
     if not _shown(given, task, work, tally):

@@ -114,6 +114,29 @@ class Needs:
         except (NoStrategy, RecursionError):
             self._strategy = None
 
+    def rule(self) -> str | None:
+        """Returns the name of the rule by which the strategy changes terms, where there is only one way.
+
+        >>> library, rules = "strategies try(s) = s <+ id", "rules A : B() -> C()  D : B() -> E()"
+        >>> [Needs([library, rules], it).rule() for it in ("all(try(A))", "A <+ D", "A; !C()", "all(try(?B()))")]
+        ['A', None, None, None]
+        """
+        found: set[str | None] = set()
+        waiting = [self._strategy] if self._strategy is not None else []
+        seen: set[tuple[str, int, int]] = set()
+        while waiting:
+            it = waiting.pop()
+            waiting += it.parts
+            if it.kind in ("build", "applied", "prim", "closure"):
+                found.add(None)
+            key = (it.name, len(it.parts), len(it.patterns))
+            if it.kind == "call" and key not in seen:
+                seen.add(key)
+                bodies = [one.body for one in self._definitions.get(key, ())]
+                found.update(it.name for body in bodies if body.kind == "rule")
+                waiting += [body for body in bodies if body.kind != "rule"]
+        return found.pop() if len(found) == 1 else None
+
     def unmet(self, seen: Seen, budget: int) -> bool:
         """Whether the strategy surely leaves such a tree as it is, in so many steps."""
         if self._strategy is None or seen.most_levels > _MOST_LEVELS:

@@ -3,10 +3,10 @@
 from __future__ import annotations
 
 import time
-from collections.abc import Sequence
+from collections.abc import Iterator, Sequence
 
 from ..python import Source, position
-from ..terms import deep
+from ..terms import LIST, Term, deep
 from .outcomes import _outcome, _up
 from .runs import Result, budget, transformed
 from .task import MOST_TERMS, Outcome, Task
@@ -55,12 +55,27 @@ def _is_left(source: Source, task: Task) -> bool:
 
 def _changed(name: str, source: Source, result: Result, task: Task) -> Outcome:
     outcome = _outcome(name, source, result, task)
-    if outcome.contents is None:
+    if outcome.contents is None or result.replaced is None:
         return outcome
-    return outcome._replace(places=tuple(sorted(_line(source, path) for path in result.places)))
+    places: list[int] = []
+    for path, new in result.replaced.items():
+        *above, old = reversed(_up(source.term, path))
+        around = next((place[0] for it in reversed(above) if (place := position(it)) is not None), 0)
+        places += _differences(old, new, around)
+    return outcome._replace(places=tuple(source.lines.number(it) for it in sorted(places)))
 
 
-# The line of a place: where the smallest node around it begins that has a position.
-def _line(source: Source, path: tuple[int, ...]) -> int:
-    found = next((place for it in _up(source.term, path) if (place := position(it)) is not None), (0, 0))
-    return source.lines.number(found[0])
+# Where the terms begin that differ, or the smallest around them with a position. Of a list what is alike at its ends doesn't differ.
+def _differences(old: Term, new: Term, around: int) -> Iterator[int]:
+    place = position(old)
+    first = around if place is None else place[0]
+    if old.head != new.head or old.annotations != new.annotations or old.head != LIST and len(old.children) != len(new.children):
+        yield first
+    elif len(old.children) == len(new.children):
+        for one, two in zip(old.children, new.children):
+            if one != two:
+                yield from _differences(one, two, first)
+    else:
+        alike = next((at for at, (one, two) in enumerate(zip(old.children, new.children)) if one != two), len(old.children))
+        changed = old.children[min(alike, len(old.children) - 1)] if old.children else old
+        yield (position(changed) or (first, 0))[0]
