@@ -3,14 +3,13 @@ known isn't read. What comes of them is the same without that."""
 
 import os
 import random
-import subprocess
-import sys
 import tempfile
 
+import stratbench
 import try_modules
 import try_trees
 from stratbench import Stratbench, python, strategies, terms
-from stratbench.refactor import Bench, Task, needs, refactored
+from stratbench.refactor import Bench, Task, narrow, needs, refactored
 from stratbench.refactor.runs import Refused, budget, prepared
 
 MODULE = """module needs
@@ -63,6 +62,7 @@ def tests(top, everything):
     library = prepared(task).needs._definitions
     yield from same(task, sources, library)
     yield from whole(task, texts)
+    yield from narrowed(top, everything)
     yield from unread(top)
 
 
@@ -126,13 +126,54 @@ def whole(task, texts):
         yield f"what comes of files by `{strategy}`", "" if bare[0] == bare[1] else f"{[it for it in zip(*bare) if it[0] != it[1]]}"
 
 
+# Changes within statements: with modules of the library, and rules.
+CHANGES = """module changes
+rules
+  Gone : [Expr(Call(f,a,k))|ss] -> ss
+  More : [Return(x)|ss] -> [Expr(Call(Name("log",Load()),[],[])),Return(x)|ss]
+  Turn : If(c,[a],[b]) -> If(UnaryOp(Not(),c),[b],[a])
+  Wrap : If(c,b,[]) -> If(c,[Try(b,[],[],[Pass()])],[])
+  Bare : FunctionDef(n,a,b,[d|ds],r,t,p) -> FunctionDef(n,a,b,ds,r,t,p)
+  Word : Constant("utf-8",k) -> Constant("a\\n'b",k)
+strategies
+  in-some = Module([id|rec x([id|x] <+ [])],id)
+"""
+WITHIN = ["alltd(Gone)", "topdown(try(More))", "bottomup(try(Turn))", "alltd(Wrap)", "topdown(try(Bare))", "topdown(try(Word))", "oncetd(Turn)", "oncebu(Gone)"]
+
+
+def narrowed(top, everything):
+    """What comes of a few statements in their own text is what comes of them in the whole."""
+    with open(f"{top}/strategies/python.str", "rb") as it:
+        modules = (("python", it.read()), ("changes", CHANGES.encode()))
+    files = sorted(try_modules.modules(True), key=os.path.getsize)[20 : None if everything else 110 : 1 if everything else 12]
+    work = []
+    for file in files:
+        with open(file, "rb") as it:
+            work.append((file, it.read()))
+    parts, taken = narrow.parts, []
+
+    def noted(*given):
+        found = parts(*given)
+        taken.append(found is not None)
+        return found
+
+    for strategy in WITHIN:
+        task = Task(modules, strategy)
+        narrow.parts = noted
+        one = refactored(work, task)
+        narrow.parts = lambda source, result: None
+        two = refactored(work, task)
+        narrow.parts = parts
+        differ = [(it.name, it.diff.decode(), other.diff.decode(), it.left, other.left) for it, other in zip(one, two) if it._replace(seconds=()) != other._replace(seconds=())]
+        yield f"`{strategy}` in a few statements, and in the whole", "\n".join(map(str, differ[:1]))
+    yield "some are looked at in a few statements", "" if taken.count(True) >= 10 else f"{taken.count(True)} of {len(taken)}"
+
+
 def unread(top):
     """A long text goes to the program as it is."""
     text = "[" + ",".join(f'f({at}, "a,[b{{\\\\\\"\u00e9" ){{({at},2)}}' for at in range(9_000)) + "]"
     read, called = terms.read, []
     with Stratbench() as bench:
-        import stratbench
-
         stratbench.read = lambda it: called.append(it) or read(it)
         try:
             bench.tree("t", text)
