@@ -425,11 +425,15 @@ class Stratbench:
         try:
             self._give_steps(head.split(" ")[0], name, list(in_parts(text.sent, path, _PART)))
         except TooLong as error:
-            raise Refused("refused 3 long", str(error)) from None
+            # it may be the blanks between its parts
+            less = write(_read(text.own))
+            if len(less) >= len(text.sent):
+                raise Refused("refused 3 long", str(error)) from None
+            self._give(head, name, path, less)
         except (Unbalanced, Refused) as error:
             # the places in what a part is refused for aren't those in the text
             if isinstance(error, Unbalanced) or error.number == _NO_TERM:
-                _check(text.own)
+                _read(text.own)
             raise
 
     def _give_steps(self, begins: str, name: str, steps: list[Step]) -> None:
@@ -502,10 +506,10 @@ class Stratbench:
         return lines
 
 
-# Says where a text spells no term.
-def _check(text: str) -> None:
+# The term of a text.
+def _read(text: str) -> Term:
     try:
-        read(text)
+        return read(text)
     except NoTerm as error:
         raise Refused(f"refused {_NO_TERM} term", str(error)) from None
 
