@@ -27,10 +27,11 @@ import warnings
 from bisect import bisect_right
 from collections import Counter
 from collections.abc import Callable, Iterator
-from functools import cached_property
+from functools import cached_property, lru_cache
 from operator import attrgetter
 from typing import Final, NamedTuple
 
+from .strategies import TAIL, Pattern
 from .terms import LIST, TUPLE, NoTerm, Shown, Term, string, write
 from .terms import deep as deep
 
@@ -324,9 +325,10 @@ class _TreeText:
 
 
 class Survey(NamedTuple):
-    """What is seen of a syntax tree at a glance: the constructors of its nodes but for contexts, and bounds of the size and the height of
-    its term."""
+    """What is seen of a syntax tree at a glance: its nodes but for contexts, level by level, the constructors of these, and bounds of the
+    size and the height of its term."""
 
+    levels: list[list[object]]
     constructors: frozenset[str]
     least_terms: int
     most_terms: int
@@ -370,10 +372,10 @@ def survey(tree: ast.AST) -> Survey:
     """Returns the survey of a syntax tree. It goes over the nodes level by level, which takes a fifth of the time of parsing."""
     level: list[object] = [tree]
     found: Counter[type] = Counter()
-    levels = 0
+    levels: list[list[object]] = []
     known = _WITH_OTHERS.get
     while level:
-        levels += 1
+        levels.append(level)
         found.update(map(type, level))
         below: list[object] = []
         add = below.append
@@ -397,7 +399,7 @@ def survey(tree: ast.AST) -> Survey:
     least = others + sum(count * _CLASSES[kind].least for kind, count in found.items() if kind in _CLASSES)
     most = others + sum(count * _CLASSES[kind].most for kind, count in found.items() if kind in _CLASSES)
     # a level of nodes is two of terms, with the list between; below the last are a constant's string, or a position
-    return Survey(frozenset(it.__name__ for it in found if it in _CLASSES), least, most, 2 * levels + 2)
+    return Survey(levels, frozenset(it.__name__ for it in found if it in _CLASSES), least, most, 2 * len(levels) + 2)
 
 
 def _leaf(value: object) -> Term:
@@ -507,6 +509,39 @@ _UNSEEN: Final = frozenset([*_CONSTANTS, "None", *(it.name for it in CONSTRUCTOR
 _IDENTIFIER: Final = re.compile(rb"[A-Za-z_][A-Za-z0-9_]*")
 
 
+# The string that a part of a pattern matches alone.
+def _string(pattern: Pattern, strings: tuple[tuple[str, bytes], ...]) -> bytes | None:
+    if pattern.kind == "variable":
+        return dict(strings).get(str(pattern.name))
+    return pattern.name if pattern.kind == "string" and isinstance(pattern.name, bytes) else None
+
+
+# Says whether what is in a field may match a pattern: a node, a list, or a constant, a name or a number of Python's.
+@lru_cache(1_000)
+def _matcher(pattern: Pattern, strings: tuple[tuple[str, bytes], ...]) -> Callable[[object], bool]:
+    name = pattern.name
+    string_ = _string(pattern, strings)
+    if string_ is not None:
+        return lambda value: isinstance(value, str) and value.encode(errors="surrogatepass") == string_
+    if pattern.kind == "constructor" and name == "None":
+        return lambda value: value is None
+    if pattern.kind == "other" and pattern.parts:
+        return _matcher(pattern.parts[0], strings)
+    if pattern.kind != "constructor" or name in _UNSEEN or name == TUPLE:
+        return lambda value: True
+    parts = [_matcher(it, strings) for it in pattern.parts]
+    # parts that match all needn't be looked at
+    asked = [(at, it) for at, (it, part) in enumerate(zip(parts, pattern.parts)) if part.parts or part.name]
+    if name in (LIST, TAIL):
+        least, most = len(parts), len(parts) if name == LIST else sys.maxsize
+        return lambda value: isinstance(value, list) and least <= len(value) <= most and all(it(value[at]) for at, it in asked)
+    known, kind = CONSTRUCTORS.get(str(name)), getattr(ast, str(name), None)
+    if known is None or kind is None or len(known.fields) != len(parts):
+        return lambda value: False
+    fields = [(known.fields[at], it) for at, it in asked]
+    return lambda value: value.__class__ is kind and all(it(getattr(value, field.name, [] if field.number == "*" else None)) for field, it in fields)
+
+
 class Source:
     """A file of Python: its bytes, its text as Python reads it, its syntax tree, and that as a term.
 
@@ -546,17 +581,33 @@ class Source:
         """A bound of the height of the term."""
         return self.survey.most_levels
 
-    def lacks(self, constructor: str) -> bool:
-        """Whether there is surely no application of the constructor in the term."""
-        return constructor not in self.survey.constructors and constructor not in _UNSEEN
+    def lacks(self, pattern: Pattern, strings: tuple[tuple[str, bytes], ...] = ()) -> bool:
+        """Whether no subterm of the term matches an application of a constructor, where these variables stand for strings. True is
+        sure, and false isn't.
 
-    def lacks_name(self, constructor: str, field: int, name: bytes) -> bool:
-        """Whether there is surely no application of the constructor with this name in a field. A name in ASCII is in the text letter by
-        letter, if nothing but ASCII is there: other letters may stand for one."""
-        known = CONSTRUCTORS.get(constructor)
-        if known is None or field >= len(known.fields) or known.fields[field].sort != "identifier" or known.fields[field].number == "*":
+        >>> from stratbench.strategies import pattern
+        >>> source = Source(b"while x.y: pass")
+        >>> [source.lacks(pattern(it)) for it in ("While(_,[],_)", "While(_,_,[])", "Attribute(_,\\"y\\",_)", "For()")]
+        [True, False, False, True]
+        """
+        name = str(pattern.name)
+        if name in _UNSEEN:
             return False
-        return bool(_IDENTIFIER.fullmatch(name)) and self.text.isascii() and name not in self.text
+        if name not in self.survey.constructors or self._lacks_names(pattern, strings):
+            return True
+        matches, kind = _matcher(pattern, strings), getattr(ast, name)
+        return not any(matches(it) for level in self.survey.levels for it in level if it.__class__ is kind)
+
+    # Whether an identifier in the pattern isn't in the text, of which it is a part letter by letter, if there is nothing but ASCII: other
+    # letters may stand for one.
+    def _lacks_names(self, pattern: Pattern, strings: tuple[tuple[str, bytes], ...]) -> bool:
+        known = CONSTRUCTORS[str(pattern.name)]
+        for field, part in zip(known.fields, pattern.parts):
+            name = _string(part, strings)
+            if name is not None and field.sort == "identifier" and field.number != "*" and _IDENTIFIER.fullmatch(name):
+                if self.text.isascii() and name not in self.text:
+                    return True
+        return False
 
     @cached_property
     def shown(self) -> Shown:

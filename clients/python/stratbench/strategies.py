@@ -22,6 +22,8 @@ _TOKEN: Final = re.compile(
     r"|(?P<sign>=>|->|<\+|[()\[\]{},;:|=<>+*?!@\\])",
     re.DOTALL,
 )
+# The name of a list with a tail.
+TAIL: Final = "[|]"
 _SECTIONS: Final = ("signature", "rules", "strategies")
 _OF_ONE: Final = {"not": "not", "where": "where", "test": "where", "all": "all", "one": "one", "some": "some"}
 
@@ -31,8 +33,8 @@ class NoStrategy(ValueError):
 
 
 class Pattern(NamedTuple):
-    """A pattern: a constructor's (or LIST, or TUPLE), with its parts, a string, an integer, a variable, or another, which matches no
-    more than its parts do: `x@p` has p, one with annotations what is before these, and a list with a tail the list before that."""
+    """A pattern: a constructor's (or LIST, TAIL for a list with a tail, or TUPLE), with its parts, a string, an integer, a variable, or
+    another, which matches no more than its parts do: `x@p` has p, and one with annotations what is before these. A tail is no part."""
 
     kind: Literal["constructor", "string", "integer", "variable", "other"]
     name: str | bytes = ""
@@ -74,6 +76,11 @@ def strategy(text: str) -> Strategy:
     found = reader.strategy()
     reader.take("")
     return found
+
+
+def pattern(text: str) -> Pattern:
+    """Returns the pattern of a text. Raises `NoStrategy`."""
+    return strategy(f"?{text}").patterns[0]
 
 
 def definitions(text: str) -> Definitions:
@@ -307,7 +314,7 @@ class _Reader:
             if self._taken("|"):
                 self._pattern()
                 self.take("]")
-                return Pattern("other", "", (Pattern("constructor", LIST, tuple(found)),))
+                return Pattern("constructor", TAIL, tuple(found))
             if not self._taken(","):
                 found.append(self._pattern())
         return Pattern("constructor", LIST, tuple(found))

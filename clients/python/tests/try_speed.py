@@ -59,6 +59,7 @@ def tests(top, everything):
             texts.append(it.read())
     sources = [python.Source(it) for it in texts]
     yield "the text of a tree is that of its term, and a survey is true", "\n".join(filter(None, map(seen, sources)))
+    yield from matched()
     library = prepared(task).needs._definitions
     yield from same(task, sources, library)
     yield from whole(task, texts)
@@ -70,9 +71,31 @@ def seen(source):
     if terms.shown(source.term) != source.shown:
         return f"{source.text[:40]}: another text"
     heads = {it.head for it in terms.subterms(source.term)}
-    lacking = [it for it in python.CONSTRUCTORS if source.lacks(it) == (it in heads) and it not in ("Load", "Store", "Del")]
+    lacking = [name for name, it in python.CONSTRUCTORS.items() if it.sort != "expr_context" and lacks(source, it) == (name in heads)]
     bounds = source.least_terms <= source.shown.size <= source.most_terms and terms.height(source.term) <= source.most_levels
     return "" if bounds and not lacking else f"{source.text[:40]}: {lacking} {source.survey}"
+
+
+def lacks(source, constructor):
+    return source.lacks(strategies.pattern(f"{constructor.name}({','.join('_' * len(constructor.fields))})"))
+
+
+# Patterns, and which of `MATCHED` they may match.
+PATTERNS = [
+    ('Name("old",_)', "1000"), ('Call(Name("old",_),[_],[])', "1000"), ("Call(_,[],_)", "0110"), ("Call(_,[_|_],_)", "1000"), ("Call(_,x@[Constant(1,_)],_)", "1000"),
+    ('Call(_,_,[keyword("a",_)])', "0010"), ('Constant("b",None())', "0001"), ('Constant("b","u")', "0000"), ("Return(None())", "0000"), ("Return(Name(_,_))", "0000"),
+    ("FunctionDef(_,_,[Pass(),_],_,_,_,_)", "0001"), ("BoolOp(Or(),_)", "0010"), ("UnaryOp(Not(),Compare(_,[In()],[_]))", "0010"), ("Compare(_,[NotIn()],_)", "0000"),
+    ("Attribute(x{1},_,_)", "0100"), ('Call(Attribute(_,"\\303\\251",_),_,_)', "0100"),
+]  # fmt: skip
+MATCHED = ["old(1)", "x.\u00e9()", "f(a=not x in y or z)", "def f():\n pass\n 'b'"]
+
+
+def matched():
+    """Whether a text lacks what a pattern matches. Only the second text of a constant may have a kind that isn't looked at."""
+    sources = [python.Source(it.encode()) for it in MATCHED]
+    for text, wanted in PATTERNS:
+        got = "".join("01"[not it.lacks(strategies.pattern(text))] for it in sources)
+        yield f"what `{text}` may match", "" if got == wanted else got
 
 
 def drawn(draw, depth):

@@ -1,13 +1,13 @@
 """What a strategy needs of a tree: where the tree lacks it, nothing would change, and the workbench needn't be asked.
 
+    >>> def named(pattern, strings):
+    ...     return [dict(strings).get(pattern.name, pattern.name), *(name for it in pattern.parts for name in named(it, strings))]
     >>> class Lacking:
     ...     least_terms, most_terms, most_levels = 100, 100, 10
-    ...     def __init__(self, *constructors):
-    ...         self.constructors = constructors
-    ...     def lacks(self, constructor):
-    ...         return constructor in self.constructors
-    ...     def lacks_name(self, constructor, field, name):
-    ...         return name in self.constructors
+    ...     def __init__(self, *names):
+    ...         self.names = names
+    ...     def lacks(self, pattern, strings):
+    ...         return any(it in self.names for it in named(pattern, strings))
     >>> library = "strategies try(s) = s <+ id  bottomup(s) = all(bottomup(s)); s  repeat(s) = try(s; repeat(s))"
     >>> rules = 'rules A : While(x,Name("a",_)) -> x  B(|n) : With(n,_) -> n'
     >>> for text in ("bottomup(try(A <+ B(|\\"b\\")))", "bottomup(A)", "repeat(A); try(B(|\\"b\\"))", "repeat(id)", "!With(1,2)"):
@@ -23,7 +23,7 @@ Why this is sound. A strategy is gone over for all subterms of such a tree at on
 that it gives the very same term, or fails. These are the cases of `docs/manual/meaning.md`, with both answers wherever a test may come out
 either way. All that isn't known to be one of the two ends the search, and the workbench is asked: what builds a term, a primitive, a rule
 whose left side the tree may have. So where a form is gone over, the terms that it is applied to are still those of the tree, and the tree
-may be left alone where the only outcome at the root is the same term.
+may be left alone where the only outcome at the root is the same term. Conditions of rules aren't looked at.
 
 Nor may the budget run out, or a run go on for ever. A definition that is met again within itself has to be at a subterm by then, and is
 met at one place alone; and no definition of that kind is within another. So each form that is gone over is evaluated at most once for a
@@ -33,11 +33,10 @@ constants, which are built at every level that a tree may have.
 
 from __future__ import annotations
 
-import re
 from collections.abc import Iterable
 from typing import Final, NamedTuple, Protocol, Union
 
-from ..strategies import Definition, Definitions, NoStrategy, Pattern, Strategy, definitions, strategy
+from ..strategies import TAIL, Definition, Definitions, NoStrategy, Pattern, Strategy, definitions, strategy
 from ..terms import LIST, TUPLE
 
 # What may come of a strategy: it gives the term that it is applied to, or fails.
@@ -50,8 +49,8 @@ _MOST_LEVELS: Final = 900
 
 
 class Seen(Protocol):
-    """What is seen of a tree without going through it: bounds of its size and height, and what it surely lacks: applications of a
-    constructor, or those with this name in a field."""
+    """What is seen of a tree before it is a term: bounds of its size and height, and whether it surely lacks what matches an application of
+    a constructor, where these variables stand for strings."""
 
     @property
     def least_terms(self) -> int: ...
@@ -62,9 +61,7 @@ class Seen(Protocol):
     @property
     def most_levels(self) -> int: ...
 
-    def lacks(self, constructor: str) -> bool: ...
-
-    def lacks_name(self, constructor: str, field: int, name: bytes) -> bool: ...
+    def lacks(self, pattern: Pattern, strings: tuple[tuple[str, bytes], ...]) -> bool: ...
 
 
 class _Unknown(Exception):
@@ -153,6 +150,8 @@ class _Search:
     def __init__(self, known: Definitions, seen: Seen) -> None:
         self._definitions, self._seen = known, seen
         self._open: dict[_Key, _Open] = {}
+        # what was asked of the tree
+        self._lacks: dict[tuple[Pattern, tuple[tuple[str, bytes], ...]], bool] = {}
         self._all = 0
         # those that are evaluated at a subterm
         self.forms = 0
@@ -226,7 +225,7 @@ class _Search:
         return _SAME | fails
 
     def _congruence(self, name: str, parts: tuple[Strategy, ...], names: _Names, depth: int) -> int:
-        if name not in (LIST, TUPLE) and self._seen.lacks(name):
+        if name not in (LIST, TUPLE) and self._cannot(Pattern("constructor", name, (Pattern("other"),) * len(parts)), _Names()):
             return _FAILS
         return _FAILS | self._in_turn(parts, names, depth, 1)
 
@@ -290,14 +289,11 @@ class _Search:
 
     # Whether no subterm matches.
     def _cannot(self, pattern: Pattern, names: _Names) -> bool:
-        if pattern.kind == "constructor" and pattern.name not in (LIST, TUPLE):
-            constructor = str(pattern.name)
-            if self._seen.lacks(constructor):
-                return True
-            for at, part in enumerate(pattern.parts):
-                name = part.name if part.kind == "string" else dict(names.terms).get(str(part.name)) if part.kind == "variable" else None
-                if isinstance(name, bytes) and self._seen.lacks_name(constructor, at, name):
-                    return True
+        if pattern.kind == "constructor" and pattern.name not in (LIST, TAIL, TUPLE):
+            asked = pattern, names.terms
+            if asked not in self._lacks:
+                self._lacks[asked] = self._seen.lacks(*asked)
+            return self._lacks[asked]
         return any(self._cannot(it, names) for it in pattern.parts)
 
 
