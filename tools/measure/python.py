@@ -6,9 +6,9 @@ Run by hand at the top of the repository, after the program was built (README ha
 
 It needs Python and GNU time. Three refactorings are done on each module that the Python that runs it has. The visitors are those of
 `clients/python/tests/try_modules.py`; both sides begin with the parsed tree, and end with the new one. The converter's share
-is taken apart: to terms and their texts before, from the texts that differ after. Memory is the most that any process of a
-command took. Then the command does all modules in processes side by side, and on workers of a Dask cluster of this machine, with a
-Python that has `distributed`, where there is one. At last it does files of many lines, which are modules one after the other.
+is taken apart: to texts of terms before, from the texts that differ after, and to terms for patches of what changes. Memory is
+the most that any process of a command took. Then the command does all modules in processes side by side, and on workers of a Dask
+cluster of this machine, with a Python that has `distributed`, where there is one. At last it does files of many lines, which are modules one after the other.
 """
 
 import os
@@ -74,8 +74,10 @@ def main():
         with open(file, "rb") as it:
             contents.append(it.read())
     trees, parsing, _ = timed(lambda: [try_modules.parsed(it) for it in contents])
-    sources, reading, _ = timed(lambda: [python.Source(it) for it in contents])
-    texts, writing, _ = timed(lambda: [terms.write(it.term) for it in sources])
+    sources = [python.Source(it) for it in contents]
+    _, surveying, _ = timed(lambda: [it.survey for it in sources])
+    texts, writing, _ = timed(lambda: [it.shown.text for it in sources])
+    _, making, _ = timed(lambda: [it.term for it in sources])
     back, reading_back, _ = timed(lambda: [terms.read(it) for it in texts])
     _, building, _ = timed(lambda: [python.from_term(it) for it in back])
     nodes = sum(1 for source in sources for _ in python.walk(source.term))
@@ -83,20 +85,22 @@ def main():
     print(f"{len(contents)} modules of Python {version}, {sum(map(len, contents)):,} bytes, {nodes:,} nodes, {sum(map(len, texts)):,} bytes of terms.\n")
     print("| The converter, seconds | |\n|---|---|")
     print(f"| `ast.parse` | {parsing:.1f} |")
-    print(f"| parsed, and to terms | {reading:.1f} |\n| terms to texts | {writing:.1f} |")
+    print(f"| syntax trees surveyed | {surveying:.1f} |\n| syntax trees to texts of terms | {writing:.1f} |")
+    print(f"| syntax trees to terms | {making:.1f} |")
     print(f"| texts to terms | {reading_back:.1f} |\n| terms to syntax trees | {building:.1f} |\n")
-    print("| Strategy | edits | the program | sizes, texts, results | patches | `ast.NodeTransformer` |\n|---|---|---|---|---|---|")
+    print("| Strategy | edits | the program | texts, results | patches | `ast.NodeTransformer` |\n|---|---|---|---|---|---|")
     for transformer, names, strategy in try_modules.REFACTORINGS:
         task = refactor.Task(try_modules.library(TOP, *names), strategy)
+        sources = [python.Source(it) for it in contents]
 
-        def transformed():
+        def transformed(sources=sources, task=task):
             found = []
             for at in range(0, len(sources), 16):
                 found += refactor.transformed(sources[at : at + 16], task)
             return found
 
         results, own, program = timed(transformed)
-        edits, patching, _ = timed(lambda: [patch(it, result.new) for it, result in zip(sources, results)])
+        edits, patching, _ = timed(lambda: [patch(it, result.new) for it, result in zip(sources, results) if result.replaced])
         fresh = [try_modules.parsed(it) for it in contents]
         _, visiting, _ = timed(lambda: [transformer().visit(it) for it in fresh])
         print(f"| `{strategy}` | {sum(map(len, edits))} | {program:.1f} | {own:.1f} | {patching:.1f} | {visiting:.1f} |")

@@ -376,11 +376,11 @@ def survey(tree: ast.AST) -> Survey:
     known = _WITH_OTHERS.get
     while level:
         levels.append(level)
-        found.update(map(type, level))
+        kinds = list(map(type, level))
+        found.update(kinds)
         below: list[object] = []
         add = below.append
-        for node in level:
-            fields = known(node.__class__)
+        for node, fields in zip(level, map(known, kinds)):
             if fields is not None:
                 one, several, many, lists = fields
                 if one is not None:
@@ -558,9 +558,12 @@ class Source:
         except (UnicodeDecodeError, LookupError) as error:
             raise SyntaxError(str(error)) from None
         self.text = text.encode()
-        self.lines = Lines(self.text)
         with deep():
             self.tree = parse(text)
+
+    @cached_property
+    def lines(self) -> Lines:
+        return Lines(self.text)
 
     @cached_property
     def survey(self) -> Survey:

@@ -10,7 +10,6 @@ the workbench, `needs` tells what it needn't be asked, `outcomes` makes patches,
 done, and `command` is the command line.
 """
 
-from ..patch import apply_edits
 from ..terms import exchange
 from .runs import Bench, NoProgram, Result, transformed
 from .sources import refactored
@@ -21,6 +20,6 @@ from .writing import WriteFault, write_all
 _Bench = Bench
 
 __all__ = [
-    "MOST_LEVELS", "MOST_STEPS", "MOST_TERMS", "Bench", "Comment", "NoProgram", "Outcome", "Result", "Task", "WriteFault", "apply_edits",
-    "exchange", "refactored", "transformed", "write_all",
+    "MOST_LEVELS", "MOST_STEPS", "MOST_TERMS", "Bench", "Comment", "NoProgram", "Outcome", "Result", "Task", "WriteFault", "exchange",
+    "refactored", "transformed", "write_all",
 ]  # fmt: skip

@@ -2,26 +2,84 @@
 
 from __future__ import annotations
 
-from ..patch import Edit, Unwritable
-from ..patch.tokens import Token
-from ..python import Source
-from ..rewriting import Rewritten, rewritten, shadows, with_comments
-from ..rewriting import shown as _diff
-from ..rewriting import up as _up
-from ..terms import NoTerm, Term
+from collections.abc import Iterator, Sequence
+
+from ..patch import Edit, Unwritable, apply_edits
+from ..python import Source, position
+from ..rewriting import Rewritten, rewritten, shadows, shown, up, with_comments
+from ..terms import LIST, NoTerm, Term
 from ..terms import at as subterm
+from . import narrow
 from .runs import Result
 from .task import Comment, Outcome, Task
 
 
-def _outcome(name: str, source: Source, result: Result, task: Task) -> Outcome:
+def changed(name: str, source: Source, result: Result, task: Task) -> Outcome:
+    """Returns what comes of a file for which a strategy gave another tree, or none."""
+    parts = narrow.parts(source, result)
+    outcome = _in_parts(name, source, parts) if parts is not None else None
+    if outcome is None:
+        outcome, parts = _whole(name, source, result, task), [narrow.Part(0, source, result)]
+    if outcome.contents is None:
+        return outcome
+    places = [source.lines.number(it.first + place) for it in parts or [] for place in _places(it.source, it.result)]
+    return outcome._replace(places=tuple(sorted(places)))
+
+
+# What comes of a source whose parts change alone; nothing where the whole has to be looked at.
+def _in_parts(name: str, source: Source, parts: Sequence[narrow.Part]) -> Outcome | None:
+    edits: list[Edit] = []
+    for first, part, result in parts:
+        try:
+            assert result.new is not None
+            found = rewritten(part, result.new)
+        except (NoTerm, Unwritable):
+            return None
+        # a comment may go elsewhere, and the last line has to end
+        if found.lost or not found.text.endswith(b"\n") and first + len(part.text) < len(source.text):
+            return None
+        edits += [Edit(it.first + first, it.last + first, it.text) for it in found.edits]
+    if not edits:
+        return Outcome(name)
+    try:
+        return Outcome(name, source.encoded(apply_edits(source.text, 0, len(source.text), edits)), shown(name, source, edits))
+    except UnicodeEncodeError:
+        return None
+
+
+# Where what changes begins.
+def _places(source: Source, result: Result) -> Iterator[int]:
+    for path, new in (result.replaced or {}).items():
+        *above, old = reversed(up(source.term, path))
+        around = next((place[0] for it in reversed(above) if (place := position(it)) is not None), 0)
+        yield from _differences(old, new, around)
+
+
+# Where the terms begin that differ, or the smallest around them with a position. Of a list what is alike at its ends doesn't differ.
+def _differences(old: Term, new: Term, around: int) -> Iterator[int]:
+    place = position(old)
+    first = around if place is None else place[0]
+    if old.head != new.head or old.annotations != new.annotations or old.head != LIST and len(old.children) != len(new.children):
+        yield first
+    elif len(old.children) == len(new.children):
+        for one, two in zip(old.children, new.children):
+            if one != two:
+                yield from _differences(one, two, first)
+    else:
+        alike = next((at for at, (one, two) in enumerate(zip(old.children, new.children)) if one != two), len(old.children))
+        changed = old.children[min(alike, len(old.children) - 1)] if old.children else old
+        yield (position(changed) or (first, 0))[0]
+
+
+# What comes of a source whose tree changes as a whole.
+def _whole(name: str, source: Source, result: Result, task: Task) -> Outcome:
     if result.new is None:
         return Outcome(name, left=f"{name}: {result.left}", of_texts=result.of_texts, said=result.warnings)
     try:
         found, left = rewritten(source, result.new), False
         if found.lost and task.keep_comments:
             found, left = with_comments(source, {it: subterm(result.new, it) for it in result.places}), True
-        return _shown(name, source, result.new, found, left)
+        return _rewritten(name, source, result.new, found, left)
     except (NoTerm, Unwritable) as error:
         return Outcome(name, left=f"{name}: the result is no program: {error}", fault="is no program")
     except UnicodeEncodeError as error:
@@ -33,16 +91,10 @@ def _outcome(name: str, source: Source, result: Result, task: Task) -> Outcome:
         )
 
 
-# A source as it would be. `left` is whether places were left for the comments that it would lack.
-def _shown(name: str, source: Source, new: Term, found: Rewritten, left: bool) -> Outcome:
+# A source as it would be. `left` is whether places are left for the comments that it would lack.
+def _rewritten(name: str, source: Source, new: Term, found: Rewritten, left: bool) -> Outcome:
     comments = tuple(Comment(source.lines.number(it.first), it.text, left) for it in found.lost)
     if not found.edits:
         return Outcome(name, comments=comments)
     said = tuple(f"{name}:{line}: the new import of {what} is shadowed here" for what, line in shadows(source, new))
-    return Outcome(name, source.encoded(found.text), _diff(name, source, found.edits), said=said, comments=comments)
-
-
-# The names that `_in_parts` of the module `sources` uses.
-def _patched(source: Source, new: Term) -> tuple[list[Edit], bytes, list[Token]]:
-    found = rewritten(source, new)
-    return found.edits, found.text, found.lost
+    return Outcome(name, source.encoded(found.text), shown(name, source, found.edits), said=said, comments=comments)

@@ -3,13 +3,10 @@
 from __future__ import annotations
 
 import time
-from collections.abc import Iterator, Sequence
+from collections.abc import Sequence
 
-from ..patch import Edit, Unwritable, apply_edits
-from ..python import Source, position
-from ..terms import LIST, NoTerm, Term, deep
-from . import narrow
-from .outcomes import _diff, _outcome, _patched, _up
+from ..python import Source
+from ..terms import deep
 from .runs import Result, budget, transformed
 from .task import MOST_TERMS, Outcome, Task
 
@@ -55,57 +52,8 @@ def _is_left(source: Source, task: Task) -> bool:
     return task.needs.unmet(source, budget(task, source.least_terms))
 
 
+# Where nothing changes, nothing of patches is loaded: that takes as long as parsing a hundred thousand bytes.
 def _changed(name: str, source: Source, result: Result, task: Task) -> Outcome:
-    parts = narrow.parts(source, result)
-    outcome = _in_parts(name, source, parts) if parts is not None else None
-    if outcome is None:
-        outcome, parts = _outcome(name, source, result, task), [narrow.Part(0, source, result)]
-    if outcome.contents is None:
-        return outcome
-    places = [source.lines.number(it.first + place) for it in parts or [] for place in _places(it.source, it.result)]
-    return outcome._replace(places=tuple(sorted(places)))
+    from .outcomes import changed
 
-
-# What comes of a source whose parts change alone; nothing where the whole has to be looked at.
-def _in_parts(name: str, source: Source, parts: Sequence[narrow.Part]) -> Outcome | None:
-    edits: list[Edit] = []
-    for first, part, result in parts:
-        try:
-            assert result.new is not None
-            some, text, lost = _patched(part, result.new)
-        except (NoTerm, Unwritable):
-            return None
-        # a comment may go elsewhere, and the last line has to end
-        if lost or not text.endswith(b"\n") and first + len(part.text) < len(source.text):
-            return None
-        edits += [Edit(it.first + first, it.last + first, it.text) for it in some]
-    if not edits:
-        return Outcome(name)
-    try:
-        return Outcome(name, source.encoded(apply_edits(source.text, 0, len(source.text), edits)), _diff(name, source, edits))
-    except UnicodeEncodeError:
-        return None
-
-
-# Where what changes begins.
-def _places(source: Source, result: Result) -> Iterator[int]:
-    for path, new in (result.replaced or {}).items():
-        *above, old = reversed(_up(source.term, path))
-        around = next((place[0] for it in reversed(above) if (place := position(it)) is not None), 0)
-        yield from _differences(old, new, around)
-
-
-# Where the terms begin that differ, or the smallest around them with a position. Of a list what is alike at its ends doesn't differ.
-def _differences(old: Term, new: Term, around: int) -> Iterator[int]:
-    place = position(old)
-    first = around if place is None else place[0]
-    if old.head != new.head or old.annotations != new.annotations or old.head != LIST and len(old.children) != len(new.children):
-        yield first
-    elif len(old.children) == len(new.children):
-        for one, two in zip(old.children, new.children):
-            if one != two:
-                yield from _differences(one, two, first)
-    else:
-        alike = next((at for at, (one, two) in enumerate(zip(old.children, new.children)) if one != two), len(old.children))
-        changed = old.children[min(alike, len(old.children) - 1)] if old.children else old
-        yield (position(changed) or (first, 0))[0]
+    return changed(name, source, result, task)
