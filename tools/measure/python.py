@@ -28,7 +28,7 @@ import packages  # noqa: E402
 import try_cluster  # noqa: E402
 import try_modules  # noqa: E402
 from stratbench import Refused, Stratbench, cluster, python, refactor, terms  # noqa: E402
-from stratbench.patch import patch  # noqa: E402
+from stratbench.refactor import outcomes  # noqa: E402
 
 # Processes, and workers.
 COUNTS = (1, 2, 4)
@@ -88,7 +88,7 @@ def main():
     print(f"| syntax trees surveyed | {surveying:.1f} |\n| syntax trees to texts of terms | {writing:.1f} |")
     print(f"| syntax trees to terms | {making:.1f} |")
     print(f"| texts to terms | {reading_back:.1f} |\n| terms to syntax trees | {building:.1f} |\n")
-    print("| Strategy | edits | the program | texts, results | patches | `ast.NodeTransformer` |\n|---|---|---|---|---|---|")
+    print("| Strategy | places | the program | texts, results | patches | `ast.NodeTransformer` |\n|---|---|---|---|---|---|")
     for transformer, names, strategy in try_modules.REFACTORINGS:
         task = refactor.Task(try_modules.library(TOP, *names), strategy)
         sources = [python.Source(it) for it in contents]
@@ -100,10 +100,15 @@ def main():
             return found
 
         results, own, program = timed(transformed)
-        edits, patching, _ = timed(lambda: [patch(it, result.new) for it, result in zip(sources, results) if result.replaced])
+
+        def changed(sources=sources, task=task, results=results):
+            with terms.deep():
+                return [outcomes.changed("", it, result, task) for it, result in zip(sources, results) if result.replaced]
+
+        made, patching, _ = timed(changed)
         fresh = [try_modules.parsed(it) for it in contents]
         _, visiting, _ = timed(lambda: [transformer().visit(it) for it in fresh])
-        print(f"| `{strategy}` | {sum(map(len, edits))} | {program:.1f} | {own:.1f} | {patching:.1f} | {visiting:.1f} |")
+        print(f"| `{strategy}` | {sum(len(it.places) for it in made)} | {program:.1f} | {own:.1f} | {patching:.1f} | {visiting:.1f} |")
     print(f"\nThe program took at most {memory(texts):.0f} MB for the sixteen largest modules at a time.")
     side_by_side(contents)
     long_files(contents)
