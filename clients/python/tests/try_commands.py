@@ -11,6 +11,8 @@ import tempfile
 
 from stratbench import refactor
 from stratbench.refactor import task as bounds
+from stratbench.refactor.report import Tally
+from stratbench.refactor.runs import check_texts, prepared
 
 RULES = """module used
 rules
@@ -69,6 +71,12 @@ def wanted(got, status, out=None, said=""):
 
 A = "# \u00e9\nold\nb\n"
 
+def task_of(top, strategy):
+    """What is done by a strategy, without a process for the command."""
+    with open(f"{top}/strategies/python.str", "rb") as it:
+        return refactor.Task((("python", it.read()), ("rules", RULES.encode())), strategy)
+
+
 # Strategies that are none, and what is said of them.
 STRATEGIES = [
     ("id; ", "refused 10 syntax: the strategy ends too early: it can't end with `;` at line 1, column 3\n    id; \n      ^"),
@@ -92,7 +100,8 @@ def tests(top, everything):
         room.run("a.py", strategy="topdown(try(Odl))"), 2, "", "--do: refused 11 unknown Odl 0 0"
     )
     for strategy, said in STRATEGIES:
-        yield f"--do '{strategy}'", wanted(room.run("a.py", strategy=strategy), 2, "", f"--do: {said}\n")
+        got = check_texts(task_of(top, strategy))[0]
+        yield f"--do '{strategy}'", "" if got == f"--do: {said}" else got
     yield "a module that is none", module_fault(top)
     yield "no --do", "" if refactor_status(top, ["a.py"]) == 2 else "another status"
     yield from writing(top)
@@ -278,10 +287,10 @@ def summaries(top):
     }
     yield "--report", "" if got[0] == 3 and report == want else f"{got} {report}"
     for strategy, contents, places in PLACES:
-        room.put("p.py", contents)
-        room.run("--report", "report.json", "p.py", strategy=strategy)
-        with open(f"{room.folder}/report.json") as it:
-            [file] = json.load(it)["files"]
+        task = prepared(task_of(top, strategy))
+        tally = Tally([], task.needs.rule())
+        tally.outcomes += refactor.refactored([("p.py", contents.encode())], task)
+        [file] = json.loads(tally.report(0, False))["files"]
         got = [(it["line"], it["rule"]) for it in file["places"]]
         yield f"the places of `{strategy}`", "" if got == places else f"{got}"
     flat = "topdown(try(\\ Try(b,[ExceptHandler(e,None(),[Pass()])],[],[]) -> With([withitem(e,None())],b,None()) \\))"
@@ -327,12 +336,13 @@ NAMES = ["a\nb.py", "a\tb.py", 'a"b.py', "a\\b.py", "a\x7f.py", "\u00e9\r.py"]
 
 
 def named(top):
+    room = Room(top)
     for name in NAMES:
-        room = Room(top)
         room.put(name, A)
-        got = room.run(name)
-        ran = subprocess.run(["patch", "-p0"], cwd=room.folder, input=got[1].encode(), capture_output=True, text=False)
-        files = sorted(it for it in os.listdir(room.folder) if it.endswith(".py"))
-        right = files == [name] and ran.returncode == 0 and room.has(name) == A.replace("old", "new")
+    got = room.run(*NAMES)
+    ran = subprocess.run(["patch", "-p0"], cwd=room.folder, input=got[1].encode(), capture_output=True)
+    files = sorted(it for it in os.listdir(room.folder) if it.endswith(".py"))
+    for name in NAMES:
+        right = files == sorted(NAMES) and ran.returncode == 0 and room.has(name) == A.replace("old", "new")
         yield f"the diff of the file {name!r}", "" if right else f"{got} {ran}"
-        room.close()
+    room.close()

@@ -47,7 +47,7 @@ UNSOUND = [
 ]  # fmt: skip
 # The budgets beside the usual one.
 BUDGETS = (None, 40, 400, 4_000)
-RANDOM = 250
+RANDOM = 150
 
 
 def tests(top, everything):
@@ -168,7 +168,7 @@ def narrowed(top, everything):
     """What comes of a few statements in their own text is what comes of them in the whole."""
     with open(f"{top}/strategies/python.str", "rb") as it:
         modules = (("python", it.read()), ("changes", CHANGES.encode()))
-    files = sorted(try_modules.modules(True), key=os.path.getsize)[20 : None if everything else 110 : 1 if everything else 12]
+    files = sorted(try_modules.modules(True), key=os.path.getsize)[20 : None if everything else 110 : 1 if everything else 18]
     work = []
     for file in files:
         with open(file, "rb") as it:
@@ -189,7 +189,7 @@ def narrowed(top, everything):
         narrow.parts = parts
         differ = [(it.name, it.diff.decode(), other.diff.decode(), it.left, other.left) for it, other in zip(one, two) if it._replace(seconds=()) != other._replace(seconds=())]
         yield f"`{strategy}` in a few statements, and in the whole", "\n".join(map(str, differ[:1]))
-    yield "some are looked at in a few statements", "" if taken.count(True) >= 10 else f"{taken.count(True)} of {len(taken)}"
+    yield "some are looked at in a few statements", "" if taken.count(True) >= 5 else f"{taken.count(True)} of {len(taken)}"
 
 
 def unread(top):
