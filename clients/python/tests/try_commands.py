@@ -5,6 +5,7 @@ import os
 import pty
 import re
 import shutil
+import signal
 import subprocess
 import sys
 import tempfile
@@ -119,10 +120,28 @@ def tests(top, everything):
     names = [f"{name}.py" for name in many]
     one, two = room.run(*names), room.run("--jobs", "3", *names)
     yield "--jobs gives the same", "" if one == two and one[0] == 0 and one[1].count("+new") == 40 else f"{one}\n{two}"
+    yield from stopped(top, names, many)
     room.put("ends", f'#!/bin/sh\ncase "$*" in *t1=*) kill -9 $PPID ;; esac\nexec {os.environ["STRATBENCH"]} "$@"\n')
     os.chmod(f"{room.folder}/ends", 0o755)
     got = room.run("--jobs", "2", "--write", "--program", "./ends", *names)
     yield "a process of --jobs that ends", wanted(got, 3, "", "nothing was written: a process ended") or ("" if room.has(names[0]) == many["f0"] else "a file changed")
+
+
+def stopped(top, names, files):
+    """The command is stopped while the workbench runs, by a signal that the program sends."""
+    for words, target in ((), "$PPID"), (("--jobs", "2"), "$(cut -d' ' -f4 /proc/$PPID/stat)"):
+        room = Room(top, **files)
+        os.mkdir(f"{room.folder}/temporary")
+        room.put("stops", f'#!/bin/sh\ncase "$*" in *t1=*) kill -TERM {target} ;; esac\nexec {os.environ["STRATBENCH"]} "$@"\n')
+        os.chmod(f"{room.folder}/stops", 0o755)
+        os.environ["TMPDIR"] = f"{room.folder}/temporary"
+        got = room.run(*words, "--write", "--program", "./stops", *names)
+        del os.environ["TMPDIR"]
+        left = os.listdir(f"{room.folder}/temporary")
+        same = all(room.has(f"{name}.py") == text for name, text in files.items())
+        right = got[0] == -signal.SIGTERM and got[2] == "nothing was written: stopped by SIGTERM\n" and not left and same
+        yield f"SIGTERM while files are done {words}", "" if right else f"{got} {left} {same}"
+        room.close()
 
 
 def refactor_status(top, words):

@@ -4,6 +4,7 @@ the workers of a cluster."""
 from __future__ import annotations
 
 import pickle
+import signal
 from collections.abc import Iterable, Iterator, Sequence
 from concurrent.futures import ProcessPoolExecutor
 from concurrent.futures.process import BrokenProcessPool
@@ -32,12 +33,19 @@ def outcomes(work: Sequence[tuple[str, bytes]], task: Task, jobs: int, cluster: 
         for batch in _batches(work, jobs):
             yield from refactored(batch, task)
     else:
-        with ProcessPoolExecutor(jobs) as pool:
+        with ProcessPoolExecutor(jobs, initializer=_worker) as pool:
             try:
                 for found in pool.map(refactored, _batches(work, jobs), repeat(task)):
                     yield from found
             except BrokenProcessPool:
                 raise Lost("a process ended") from None
+
+
+# Ctrl-C goes to all processes of a terminal. The one that was started ends the others.
+def _worker() -> None:
+    signal.signal(signal.SIGINT, signal.SIG_IGN)
+    for it in (signal.SIGTERM, signal.SIGHUP):
+        signal.signal(it, signal.SIG_DFL)
 
 
 def answered(batch: bytes) -> bytes:

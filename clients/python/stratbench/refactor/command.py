@@ -9,6 +9,7 @@ import signal
 import sys
 from collections.abc import Iterator, Sequence
 from types import FrameType
+from typing import Any
 
 from ..cluster import Lost, Unreachable
 from . import files
@@ -40,9 +41,12 @@ def main(words: Sequence[str] | None = None) -> int:
 @contextlib.contextmanager
 def _stopping() -> Iterator[None]:
     def stop(number: int, frame: FrameType | None) -> None:
+        # what is taken away then isn't stopped
+        for it in before:
+            signal.signal(it, signal.SIG_IGN)
         raise Stopped(number)
 
-    before = {}
+    before: dict[signal.Signals, Any] = {}
     with contextlib.suppress(ValueError):
         for it in STOPPING:
             # one that is ignored, as by nohup, still is
