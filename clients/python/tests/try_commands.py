@@ -110,6 +110,7 @@ def tests(top, everything):
     yield from encodings(top)
     yield from messages(top)
     yield from starts(top)
+    yield from compared(top)
     yield from limits(top)
     yield from summaries(top)
     yield from named(top)
@@ -244,6 +245,28 @@ def starts(top):
     yield "where nothing is done, the warnings are shown", wanted(got, 0, "", "stratbench: rules.str: warning: in `R`, line 3, column 12: `y`")
     got = room.run("a.py", "same.py", strategy="R")
     yield "and where all fail, once", wanted(got, 3, "", "rules.str: warning: in `R`") or ("" if got[2].count("warning") == 1 else got[2])
+
+
+# Rules of a module, a strategy, and the variables that may have compared positions, where the second file would change without.
+POSITIONS = [
+    ('R : BoolOp(Or(),[x,x]) -> x', "topdown(try(R))", "`x` in `R`"),
+    ('R : BoolOp(Or(),[x,y]) -> x where <id> y => x', "topdown(try(R))", "`x` in `R`"),
+    ('R : Pass() -> Pass()', "topdown(try(?BoolOp(_,[x,x]); !x))", "`x` in --do"),
+    ('R : BoolOp(Or(),[x,y]) -> x where prim("eq-ignore-annos",x,y)', "topdown(try(R))", ""),
+    ('R : BoolOp(Or(),[Name(x,_),Name(x,_)]) -> Name(x,Store())', "topdown(try(R))", ""),
+    ('R : BoolOp(And(),[x,x]) -> x', "topdown(try(R))", ""),
+]
+
+
+def compared(top):
+    """Where nothing is done, a place is named that would change but for positions."""
+    room = Room(top, a="# 1\nif a or b:\n    pass\n", b="x = 1\nif (\n    f(a)\n    or f(a)): y\n")
+    for rule, strategy, said in POSITIONS:
+        room.put("rules.str", f"module used\nrules\n  {rule}\n")
+        got = room.run("a.py", "b.py", strategy=strategy)
+        wrong = [it for it in got[2].splitlines() if "but for positions" in it]
+        right = f"b.py:3: warning: would change but for positions, which a variable that stands twice compares: {said}; `eq-ignore-annos` doesn't"
+        yield f"{rule}: positions", "" if wrong == [right] * bool(said) and got[0] == 0 else f"{got}"
 
 
 def limits(top):

@@ -12,7 +12,7 @@ from types import FrameType
 from typing import Any
 
 from ..cluster import Lost, Unreachable
-from . import files
+from . import files, positions
 from .batches import outcomes
 from .report import Left, Progress, Tally, counted, said
 from .runs import NoProgram, check_texts, prepared
@@ -213,8 +213,9 @@ def _shown(given: argparse.Namespace, task: Task, work: list[tuple[str, bytes]],
     progress.clear()
     if not tally.left and not tally.changed and not given.check:
         # nothing was done: a warning may say why
-        for warning in check_texts(task)[1]:
-            print(warning, file=sys.stderr)
+        with contextlib.suppress(NoProgram):
+            for it in (*check_texts(task)[1], *positions.warning(work, task)):
+                print(it, file=sys.stderr)
     return True
 
 

@@ -33,7 +33,8 @@ constants, which are built at every level that a tree may have.
 
 from __future__ import annotations
 
-from collections.abc import Iterable
+from collections import Counter
+from collections.abc import Iterable, Iterator
 from typing import Final, NamedTuple, Protocol, Union
 
 from ..strategies import TAIL, Definition, Definitions, NoStrategy, Pattern, Strategy, definitions, strategy
@@ -97,6 +98,20 @@ class _Open:
         self.depth, self.outcomes, self.met, self.others = depth, 0, 0, False
 
 
+class _Place(NamedTuple):
+    """Where a strategy is: in which definition, and in which scopes, from the innermost. Each has the variables that it declares, or none
+    where all are its own, and a number."""
+
+    definition: str
+    scopes: tuple[tuple[frozenset[str] | None, int], ...]
+
+    def within(self, variables: frozenset[str] | None, scope: Strategy) -> _Place:
+        return self._replace(scopes=((variables, id(scope)), *self.scopes))
+
+    def scope_of(self, variable: str) -> int:
+        return next(number for names, number in self.scopes if names is None or variable in names)
+
+
 class Needs:
     """What a strategy needs, with the definitions of these modules."""
 
@@ -119,20 +134,48 @@ class Needs:
         ['A', None, None, None]
         """
         found: set[str | None] = set()
-        waiting = [self._strategy] if self._strategy is not None else []
-        seen: set[tuple[str, int, int]] = set()
-        while waiting:
-            it = waiting.pop()
-            waiting += it.parts
+        for _, it in self._reached(conditions=False):
             if it.kind in ("build", "applied", "prim", "closure"):
                 found.add(None)
+            if it.kind == "call":
+                found.update(it.name for one in self._bodies(it) if one.body.kind == "rule")
+        return found.pop() if len(found) == 1 else None
+
+    def repeated(self) -> list[tuple[str, str]]:
+        """Returns the variables that are matched twice, so that terms are compared, each after the name of its definition: that of the
+        strategy itself is empty.
+
+        >>> rules = "rules Same : [x,x] -> x  Not : [x,y] -> y where <id> x => x"
+        >>> texts = ["all(Same <+ Not)", "?[x,A(x)]", "{x: ?A(x)}; {x: ?B(x)}", "?A(x); {y: ?B(x,y)}", "?x; \\\\ (y,[y]) -> x \\\\"]
+        >>> [Needs([rules], it).repeated() for it in texts]
+        [[('Not', 'x'), ('Same', 'x')], [('', 'x')], [], [('', 'x')], [('', 'y')]]
+        """
+        matched: Counter[tuple[str, int, str]] = Counter()
+        for place, it in self._reached(conditions=True):
+            if it.kind in ("rule", "closure", "match", "then"):
+                inside = place.within(None, it) if it.kind == "closure" else place
+                matched.update((inside.definition, inside.scope_of(variable), variable) for variable in _variables(it.patterns[0]))
+        return sorted({(name, variable) for (name, _, variable), times in matched.items() if times > 1})
+
+    # The strategies that may be evaluated, with their places; those of the conditions of rules where these are asked for.
+    def _reached(self, conditions: bool) -> Iterator[tuple[_Place, Strategy]]:
+        waiting = [(_Place("", ((None, 0),)), self._strategy)] if self._strategy is not None else []
+        seen: set[tuple[str, int, int]] = set()
+        while waiting:
+            place, it = waiting.pop()
+            yield place, it
+            inside = place
+            if it.kind in ("scope", "closure"):
+                inside = place.within(frozenset(str(one.name) for one in it.patterns) if it.kind == "scope" else None, it)
+            waiting += [(inside, part) for part in it.parts]
             key = (it.name, len(it.parts), len(it.patterns))
             if it.kind == "call" and key not in seen:
                 seen.add(key)
-                bodies = [one.body for one in self._definitions.get(key, ())]
-                found.update(it.name for body in bodies if body.kind == "rule")
-                waiting += [body for body in bodies if body.kind != "rule"]
-        return found.pop() if len(found) == 1 else None
+                bodies = [one.body for one in self._bodies(it)]
+                waiting += [(_Place(it.name, ((None, id(body)),)), body) for body in bodies if conditions or body.kind != "rule"]
+
+    def _bodies(self, it: Strategy) -> list[Definition]:
+        return self._definitions.get((it.name, len(it.parts), len(it.patterns)), [])
 
     def unmet(self, seen: Seen, budget: int) -> bool:
         """Whether the strategy surely leaves such a tree as it is, in so many steps."""
@@ -295,6 +338,14 @@ class _Search:
                 self._lacks[asked] = self._seen.lacks(*asked)
             return self._lacks[asked]
         return any(self._cannot(it, names) for it in pattern.parts)
+
+
+# The variables of a pattern, each as often as it stands there.
+def _variables(it: Pattern) -> Iterator[str]:
+    if it.kind == "variable":
+        yield str(it.name)
+    for part in it.parts:
+        yield from _variables(part)
 
 
 # The string that a term is which is given to a definition; nothing for an integer.
