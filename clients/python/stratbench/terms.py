@@ -135,6 +135,17 @@ def exchange(term: Term, new: Mapping[tuple[int, ...], Term]) -> Term:
     return Term(term.head, tuple(children), term.annotations)
 
 
+def position(term: Term) -> tuple[int, int] | None:
+    """Returns the bytes from which and to which a node goes, where its annotation has them."""
+    if len(term.annotations) != 1:
+        return None
+    head, children, _ = term.annotations[0]
+    if head != TUPLE or len(children) != 2:
+        return None
+    first, last = children[0].head, children[1].head
+    return (first, last) if isinstance(first, int) and isinstance(last, int) else None
+
+
 def subterms(term: Term) -> Iterator[Term]:
     """Yields all subterms, parents before children, without annotations."""
     waiting = [term]

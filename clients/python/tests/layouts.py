@@ -24,8 +24,10 @@ import sys
 import tempfile
 from typing import NamedTuple
 
-from stratbench import rewriting, python, refactor
+from stratbench import python, refactor
+from stratbench.languages.python.shadows import shadowed
 from stratbench.patch import Unwritable
+from stratbench.refactor import rewriting
 
 
 class Case(NamedTuple):
@@ -83,8 +85,8 @@ def fault_of(case, source, result):
         return f"{found.text.decode()}wanted\n{case.after}"
     if lost != case.lost:
         return f"lost are {lost}, wanted {case.lost}"
-    shadowed = [f"{line}: {name}" for name, line in rewriting.shadows(source, new)]
-    return "" if shadowed == case.shadowed else f"shadowed are {shadowed}, wanted {case.shadowed}"
+    others = [f"{source.lines.number(place)}: {name}" for name, place in shadowed(source.term, new)]
+    return "" if others == case.shadowed else f"shadowed are {others}, wanted {case.shadowed}"
 
 
 def tests(top):

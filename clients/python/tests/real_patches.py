@@ -10,9 +10,11 @@ import sys
 import tokenize
 from collections import Counter
 
-from stratbench import changes, rewriting, python
-from stratbench.patch import apply_edits, patch_of, patched
-from stratbench.patch.edits import BLOCKS, EXPRESSIONS, STATEMENTS, normal
+from stratbench import python
+from stratbench.languages.python import LANGUAGE
+from stratbench.languages.python.patch.edits import BLOCKS, EXPRESSIONS, STATEMENTS, normal
+from stratbench.patch import apply_edits, changes, patch_of, patched
+from stratbench.refactor import rewriting
 from stratbench.terms import LIST, Term, string
 
 NONE, LOAD = Term("None"), Term("Load")
@@ -178,7 +180,7 @@ def kept(source, new):
             return f"comments come twice: {after - before}"
         if before - after != Counter(it.text for it in found.lost):
             return f"comments that are lost aren't those that are named: {before - after}"
-        groups = changes.changes_of(source.term, {(): new})
+        groups = changes.changes_of(source.term, {(): new}, LANGUAGE.kinds)
         if changes.changed(source.term, [it for group in groups for it in group]) != new:
             return "the changes don't lead to the new tree"
         left = rewriting.with_comments(source, {(): new})

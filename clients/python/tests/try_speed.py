@@ -9,7 +9,8 @@ import stratbench
 import try_modules
 import try_trees
 from stratbench import Stratbench, python, strategies, terms
-from stratbench.refactor import Bench, Task, narrow, needs, refactored
+from stratbench.languages.python import narrow
+from stratbench.refactor import Bench, Task, needs, refactored
 from stratbench.refactor.runs import Refused, budget, prepared
 
 MODULE = """module needs
@@ -184,7 +185,7 @@ def narrowed(top, everything):
         task = Task(modules, strategy)
         narrow.parts = noted
         one = refactored(work, task)
-        narrow.parts = lambda source, result: None
+        narrow.parts = lambda source, replaced: None
         two = refactored(work, task)
         narrow.parts = parts
         differ = [(it.name, it.diff.decode(), other.diff.decode(), it.left, other.left) for it, other in zip(one, two) if it._replace(seconds=()) != other._replace(seconds=())]

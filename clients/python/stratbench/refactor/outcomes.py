@@ -4,35 +4,33 @@ from __future__ import annotations
 
 from collections.abc import Iterator, Sequence
 
-from ..patch import Edit, Unwritable, apply_edits
-from ..python import Source, position
-from ..rewriting import Rewritten, rewritten, shadows, shown, up, with_comments
-from ..terms import LIST, NoTerm, Term
+from ..languages.language import Part, Source
+from ..patch.edits import Edit, Unwritable, apply_edits
+from ..terms import LIST, NoTerm, Term, exchange, position
 from ..terms import at as subterm
-from . import narrow
+from .rewriting import Rewritten, rewritten, shown, up, with_comments
 from .runs import Result
 from .task import Comment, Outcome, Task
 
 
 def changed(name: str, source: Source, result: Result, task: Task) -> Outcome:
     """Returns what comes of a file for which a strategy gave another tree, or none."""
-    parts = narrow.parts(source, result)
+    parts = source.parts(result.replaced or {})
     outcome = _in_parts(name, source, parts) if parts is not None else None
     if outcome is None:
-        outcome, parts = _whole(name, source, result, task), [narrow.Part(0, source, result)]
+        outcome, parts = _whole(name, source, result, task), [Part(0, source, result.replaced or {})]
     if outcome.contents is None:
         return outcome
-    places = [source.lines.number(it.first + place) for it in parts or [] for place in _places(it.source, it.result)]
+    places = [source.lines.number(it.first + place) for it in parts or [] for place in _places(it)]
     return outcome._replace(places=tuple(sorted(places)))
 
 
 # What comes of a source whose parts change alone; nothing where the whole has to be looked at.
-def _in_parts(name: str, source: Source, parts: Sequence[narrow.Part]) -> Outcome | None:
+def _in_parts(name: str, source: Source, parts: Sequence[Part]) -> Outcome | None:
     edits: list[Edit] = []
-    for first, part, result in parts:
+    for first, part, replaced in parts:
         try:
-            assert result.new is not None
-            found = rewritten(part, result.new)
+            found = rewritten(part, exchange(part.term, replaced))
         except (NoTerm, Unwritable):
             return None
         # a comment may go elsewhere, and the last line has to end
@@ -48,9 +46,9 @@ def _in_parts(name: str, source: Source, parts: Sequence[narrow.Part]) -> Outcom
 
 
 # Where what changes begins.
-def _places(source: Source, result: Result) -> Iterator[int]:
-    for path, new in (result.replaced or {}).items():
-        *above, old = reversed(up(source.term, path))
+def _places(part: Part) -> Iterator[int]:
+    for path, new in part.replaced.items():
+        *above, old = reversed(up(part.source.term, path))
         around = next((place[0] for it in reversed(above) if (place := position(it)) is not None), 0)
         yield from _differences(old, new, around)
 
@@ -96,5 +94,5 @@ def _rewritten(name: str, source: Source, new: Term, found: Rewritten, left: boo
     comments = tuple(Comment(source.lines.number(it.first), it.text, left) for it in found.lost)
     if not found.edits:
         return Outcome(name, comments=comments)
-    said = tuple(f"{name}:{line}: the new import of {what} is shadowed here" for what, line in shadows(source, new))
+    said = tuple(f"{name}:{line}: {what}" for line, what in source.remarks(new))
     return Outcome(name, source.encoded(found.text), shown(name, source, found.edits), said=said, comments=comments)

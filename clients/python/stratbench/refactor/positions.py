@@ -8,9 +8,9 @@ from collections.abc import Iterable, Sequence
 from itertools import islice
 from typing import Final
 
-from ..changes import Path
-from ..python import Source, position
-from ..terms import Term, deep
+from .. import languages
+from ..languages.language import Fault, Path, Source
+from ..terms import NoTerm, Term, deep, position
 from .runs import Bench, Refused, budget
 from .task import MOST_TERMS, Task
 
@@ -42,13 +42,16 @@ def _why(rules: Sequence[tuple[str, str]]) -> str:
 
 # The files that the strategy may change, as far as they are programs of a size that can be given.
 def _sources(work: Sequence[tuple[str, bytes]], task: Task) -> Iterable[tuple[str, Source]]:
+    language = languages.named(task.language)
     for name, contents in work:
+        [source] = language.sources([(name, contents)])
+        if isinstance(source, Fault) or source.most_terms > MOST_TERMS:
+            continue
+        if task.needs is None or task.needs.unmet(source, budget(task, source.least_terms)):
+            continue
         try:
-            source = Source(contents)
-            if source.most_terms > MOST_TERMS or task.needs is None or task.needs.unmet(source, budget(task, source.least_terms)):
-                continue
             _ = source.term
-        except SyntaxError:
+        except NoTerm:
             continue
         yield name, source
 

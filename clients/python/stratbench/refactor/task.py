@@ -15,7 +15,8 @@ MOST_STEPS: Final = 4_000_000_000
 class Task(NamedTuple):
     """What is done to each file: the modules that are loaded, by name and text, the strategy, and its budget, or none for one that goes
     with the file's size. `files` are the names of the modules' files for what is said of them. `keep_comments` leaves places alone where
-    a comment would be lost. `profile` asks where the steps go. `needs` is what the strategy needs of a file, where that is known."""
+    a comment would be lost. `profile` asks where the steps go. `needs` is what the strategy needs of a file, where that is known.
+    `language` is the name of the language of the files."""
 
     modules: tuple[tuple[str, bytes], ...]
     strategy: str
@@ -25,6 +26,7 @@ class Task(NamedTuple):
     keep_comments: bool = False
     profile: bool = False
     needs: Needs | None = None
+    language: str = "python"
 
 
 class Comment(NamedTuple):

@@ -4,7 +4,7 @@ from __future__ import annotations
 
 import tokenize
 
-from ..terms import LIST, Term
+from ....terms import LIST, Term
 from .base import Place
 from .edits import BLOCKS, PASS, PLACES, Cannot, Edit, aligned, field_of, span
 from .markers import name_of

@@ -11,9 +11,10 @@ from functools import lru_cache
 from operator import attrgetter
 from typing import Final, NamedTuple
 
-from .constructors import CONSTANTS, CONSTRUCTORS, Constructor, Field, Lines, constant, leaf
-from .strategies import TAIL, Pattern
-from .terms import LIST, TUPLE, write
+from ...patch.edits import Lines
+from ...strategies import TAIL, Pattern
+from ...terms import LIST, TUPLE, write
+from .constructors import CONSTANTS, CONSTRUCTORS, Constructor, Field, constant, leaf
 
 # Nodes whose fields have no positions, since Python before 3.12 gets those in f-strings wrong.
 WITHOUT_PLACES: Final = ("JoinedStr", "TemplateStr")

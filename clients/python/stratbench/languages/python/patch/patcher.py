@@ -4,10 +4,11 @@ from __future__ import annotations
 
 from bisect import bisect_right
 
-from ..python import Source
-from ..terms import Term
+from ....patch.edits import Patch
+from ....terms import Term
+from ..source import Source
 from .clauses import Clauses
-from .comments import Marks, Patch, staying
+from .comments import Marks, staying
 from .edits import Cannot, Edit
 from .tokens import Token
 

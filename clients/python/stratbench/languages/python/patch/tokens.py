@@ -9,7 +9,7 @@ from functools import cached_property
 from itertools import accumulate
 from typing import Final, NamedTuple
 
-from ..python import Lines
+from ....patch.edits import Lines
 
 
 # By how much a token leads into brackets, or out of them.

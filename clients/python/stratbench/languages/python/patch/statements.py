@@ -6,7 +6,7 @@ from bisect import bisect_left, bisect_right
 from collections.abc import Sequence
 from typing import NamedTuple
 
-from ..terms import LIST, Term
+from ....terms import LIST, Term
 from .edits import BLOCKS, IMPORTS, STATEMENTS, Cannot, Edit, aligned, field_of, span
 from .moved import Moved
 

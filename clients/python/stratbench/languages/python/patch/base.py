@@ -10,8 +10,8 @@ from collections.abc import Sequence
 from functools import cached_property
 from typing import Callable, NamedTuple
 
-from ..python import CONSTRUCTORS, Source, position
-from ..terms import LIST, Term
+from ..source import CONSTRUCTORS, Source, position
+from ....terms import LIST, Term
 from .comments import Marks
 from .edits import COMPREHENSIONS, DEFINITIONS, DISPLAYS, Cannot, Edit, apply_edits, field_of, normal, parts_of, span
 from .former import Former

@@ -5,8 +5,8 @@ from __future__ import annotations
 from collections.abc import Sequence
 from typing import Callable, NamedTuple, Tuple, Union
 
-from ..python import position
-from ..terms import LIST, Term, string
+from ..source import position
+from ....terms import LIST, Term, string
 from .base import Place
 from .edits import COMPREHENSIONS, DISPLAYS, NONE, PASS, Cannot, Edit, aligned, field_of, is_same, span
 from .fresh import Fresh

@@ -9,17 +9,9 @@ from __future__ import annotations
 import re
 from bisect import bisect_right
 from collections.abc import Sequence
-from typing import NamedTuple
 
-from .edits import Edit
+from ....patch.edits import Edit, Patch
 from .tokens import Token
-
-
-class Patch(NamedTuple):
-    """The edits of a source, in order, and the comments that aren't in the text after them."""
-
-    edits: list[Edit]
-    lost: list[Token]
 
 
 class Marks:

@@ -9,9 +9,8 @@ from __future__ import annotations
 from collections.abc import Iterable, Iterator
 from typing import NamedTuple
 
+from ...terms import LIST, Term, position
 from .patch.edits import DEFINITIONS, IMPORTS, field_of
-from .python import position
-from .terms import LIST, Term
 
 _COMPREHENSIONS = ("ListComp", "SetComp", "GeneratorExp", "DictComp")
 _SCOPES = (*DEFINITIONS, "Lambda", *_COMPREHENSIONS)

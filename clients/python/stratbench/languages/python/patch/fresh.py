@@ -6,8 +6,8 @@ import ast
 import re
 from abc import abstractmethod
 
-from ..python import CONSTRUCTORS, parse, unparse
-from ..terms import LIST, NoTerm, Term, string
+from ..source import CONSTRUCTORS, parse, unparse
+from ....terms import LIST, NoTerm, Term, string
 from .base import Base
 from .edits import BLOCKS, COMPREHENSIONS, DISPLAYS, LOAD, STATEMENTS, Cannot, Edit, parts_of, span
 from .markers import STRINGS, Piece, closed, filled, lean, marker_of, unparsed

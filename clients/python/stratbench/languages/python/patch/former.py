@@ -5,7 +5,7 @@ from __future__ import annotations
 from bisect import bisect_right
 from typing import Callable
 
-from ..terms import Term
+from ....terms import Term
 from .edits import BLOCKS, DEFINITIONS, STATEMENTS, field_of, span
 
 # The old node that a new one has the position of.

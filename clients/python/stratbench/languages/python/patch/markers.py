@@ -8,8 +8,8 @@ from collections.abc import Sequence
 from itertools import accumulate
 from typing import Final, NamedTuple
 
-from ..python import parse, to_term, unparse
-from ..terms import LIST, Term, string
+from ..source import parse, to_term, unparse
+from ....terms import LIST, Term, string
 from .edits import EXPRESSIONS, LOAD, NONE, PASS, PATTERNS, STATEMENTS, Cannot, same_tree
 from .tokens import BRACKETS
 

@@ -9,12 +9,12 @@ line, changes the module by these.
 from __future__ import annotations
 
 import ast
-from collections.abc import Iterator
-from typing import Final, NamedTuple
+from collections.abc import Iterator, Mapping
+from typing import Final
 
-from ..python import Source, position
-from ..terms import TUPLE, Term
-from .runs import Result
+from ...terms import TUPLE, Term, position
+from ..language import Part, Path
+from .source import Source
 
 # So many statements more are taken on both sides: to them belong the lines around those that change.
 _AROUND: Final = 2
@@ -24,27 +24,20 @@ _MOST_PARTS: Final = 0.5
 _OF_MODULES: Final = frozenset(["Import", "ImportFrom"])
 
 
-class Part(NamedTuple):
-    """Some lines of a source, which begin at this byte, as a source, with what a strategy gave for them."""
-
-    first: int
-    source: Source
-    result: Result
-
-
 class _Wide(Exception):
     """The whole source has to be taken."""
 
 
-def parts(source: Source, result: Result) -> list[Part] | None:
-    """Returns the parts of a source that a result changes, from first to last, or nothing where the whole has to be taken."""
+def parts(source: Source, replaced: Mapping[Path, Term]) -> list[Part] | None:
+    """Returns the parts of a source that change where terms come at these paths, from first to last, or nothing where the whole has to be
+    taken."""
     body = source.tree.body
-    if b"\r" in source.text or source.encoding not in ("utf-8", "utf-8-sig") or not result.replaced:
+    if b"\r" in source.text or source.encoding not in ("utf-8", "utf-8-sig") or not replaced:
         return None
-    if any(len(path) < 2 or path[0] for path in result.replaced):
+    if any(len(path) < 2 or path[0] for path in replaced):
         return None
     try:
-        found = [_part(source, result, *it) for it in _runs(source, sorted({path[1] for path in result.replaced}), len(body))]
+        found = [_part(source, replaced, *it) for it in _runs(source, sorted({path[1] for path in replaced}), len(body))]
     except (_Wide, SyntaxError):
         return None
     return found if sum(len(it.source.text) for it in found) < _MOST_PARTS * len(source.text) else None
@@ -77,7 +70,7 @@ def _last_line(source: Source, at: int) -> int:
     return source.tree.body[at].end_lineno or 0
 
 
-def _part(source: Source, result: Result, first: int, last: int) -> Part:
+def _part(source: Source, replaced: Mapping[Path, Term], first: int, last: int) -> Part:
     body, starts = source.tree.body, source.lines.starts
     begin = starts[_last_line(source, first - 1)] if first else 0
     end = starts[_last_line(source, last)] if last < len(body) - 1 else len(source.text)
@@ -86,11 +79,10 @@ def _part(source: Source, result: Result, first: int, last: int) -> Part:
     part.encoding = source.encoding
     if [_shape(it) for it in part.tree.body] != [_shape(it) for it in body[first : last + 1]] or _unit(part) != _unit(source):
         raise _Wide
-    assert result.replaced is not None
-    replaced = {
-        (0, path[1] - first, *path[2:]): _shifted(new, begin, end) for path, new in result.replaced.items() if first <= path[1] <= last
+    found = {
+        (0, path[1] - first, *path[2:]): _shifted(new, begin, end) for path, new in replaced.items() if first <= path[1] <= last
     }
-    return Part(begin, part, Result(part, replaced))
+    return Part(begin, part, found)
 
 
 def _shape(it: ast.stmt) -> tuple[type, int, int | None, int]:

@@ -11,8 +11,8 @@ from abc import abstractmethod
 from collections.abc import Iterator, Sequence
 from typing import NamedTuple
 
-from ..python import Source, parse, to_term, unparse
-from ..terms import LIST, NoTerm, Term, put, subterms
+from ..source import Source, parse, to_term, unparse
+from ....terms import LIST, NoTerm, Term, put, subterms
 from .commas import Commas
 from .edits import Cannot, Edit, apply_edits, same_tree, span
 

@@ -6,13 +6,11 @@ import codecs
 from collections.abc import Mapping, Sequence
 from typing import NamedTuple
 
-from .changes import Change, Path, changed, changes_of
-from .diff import unified
-from .patch import Edit, apply_edits, patch_of
-from .patch.tokens import Token
-from .python import Source, position
-from .shadows import shadowed
-from .terms import Term
+from ..diff import unified
+from ..languages.language import Path, Source
+from ..patch.changes import Change, changed, changes_of
+from ..patch.edits import Edit, Remark, apply_edits
+from ..terms import Term, position
 
 
 class Rewritten(NamedTuple):
@@ -20,20 +18,20 @@ class Rewritten(NamedTuple):
 
     edits: list[Edit]
     text: bytes
-    lost: list[Token]
+    lost: Sequence[Remark]
 
 
 def rewritten(source: Source, new: Term) -> Rewritten:
-    """Returns the source with a new tree. Raises what `patch_of` raises."""
-    edits, lost = patch_of(source, new)
+    """Returns the source with a new tree. Raises what `Source.patch` raises."""
+    edits, lost = source.patch(new)
     return Rewritten(edits, apply_edits(source.text, 0, len(source.text), edits), lost)
 
 
 def with_comments(source: Source, places: Mapping[Path, Term]) -> Rewritten:
     """Returns the source with other terms at these places, but without the changes by which a comment would be lost. `lost` are these
     comments."""
-    groups = changes_of(source.term, places)
-    without: list[Token] = []
+    groups = changes_of(source.term, places, source.language.kinds)
+    without: list[Remark] = []
     while True:
         found = rewritten(source, changed(source.term, [it for group in groups for it in group]))
         if not found.lost:
@@ -44,7 +42,7 @@ def with_comments(source: Source, places: Mapping[Path, Term]) -> Rewritten:
 
 
 # The group of changes, by its index, that a comment belongs to: that with the smallest in whose lines it is, or the last one before it.
-def _owner_of(source: Source, groups: Sequence[Sequence[Change]], comment: Token) -> int:
+def _owner_of(source: Source, groups: Sequence[Sequence[Change]], comment: Remark) -> int:
     found: list[tuple[bool, int, int]] = []
     for at, group in enumerate(groups):
         for it in group:
@@ -68,11 +66,6 @@ def up(term: Term, path: Path) -> list[Term]:
     for step in path:
         found.append(found[-1].children[step])
     return found[::-1]
-
-
-def shadows(source: Source, new: Term) -> list[tuple[str, int]]:
-    """Returns the names of new imports that are bound to something else, too, with the lines of the source."""
-    return [(name, source.lines.number(place)) for name, place in shadowed(source.term, new)]
 
 
 def shown(name: str, source: Source, edits: Sequence[Edit]) -> bytes:

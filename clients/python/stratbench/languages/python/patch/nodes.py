@@ -6,8 +6,8 @@ import tokenize
 from abc import abstractmethod
 from keyword import iskeyword
 
-from ..python import CONSTRUCTORS, position
-from ..terms import LIST, Term, string
+from ..source import CONSTRUCTORS, position
+from ....terms import LIST, Term, string
 from .base import Place
 from .commas import same_shape
 from .edits import (

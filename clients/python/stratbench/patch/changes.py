@@ -9,14 +9,12 @@ from __future__ import annotations
 
 from bisect import bisect_right
 from collections.abc import Iterable, Iterator, Mapping
-from typing import Final, NamedTuple, Optional
+from typing import NamedTuple, Optional
 
-from .patch.edits import IMPORTS, STATEMENTS, aligned
-from .python import position
-from .terms import LIST, Term
-from .terms import at as subterm
-
-Path = tuple[int, ...]
+from ..languages.language import Kinds, Path
+from ..terms import LIST, Term, position
+from ..terms import at as subterm
+from .edits import aligned
 
 
 class Change(NamedTuple):
@@ -32,10 +30,10 @@ class Change(NamedTuple):
         return (term,) if self.elements is None else term.children[self.elements[0] : self.elements[1]]
 
 
-def changes_of(old: Term, places: Mapping[Path, Term]) -> list[list[Change]]:
+def changes_of(old: Term, places: Mapping[Path, Term], kinds: Kinds) -> list[list[Change]]:
     """Returns the changes that lead to other terms at these places, in groups that are made together."""
-    found = [it for path, new in places.items() for it in _narrowed(subterm(old, path), new, path)]
-    return _together(old, found)
+    found = [it for path, new in places.items() for it in _narrowed(subterm(old, path), new, path, kinds)]
+    return _together(old, found, kinds)
 
 
 def changed(old: Term, changes: Iterable[Change]) -> Term:
@@ -60,14 +58,14 @@ def _changed(term: Term, path: Path, own: Mapping[Path, list[Change]], above: se
 
 
 # The changes that make a term another.
-def _narrowed(old: Term, new: Term, path: Path) -> Iterator[Change]:
+def _narrowed(old: Term, new: Term, path: Path, kinds: Kinds) -> Iterator[Change]:
     if old == new:
         return
     if old.head == LIST and new.head == LIST and all(it.annotations for it in old.children):
-        yield from _of_list(old, new, path)
+        yield from _of_list(old, new, path, kinds)
     elif _is_kept(old, new) and len(old.children) == len(new.children):
         for at, (one, two) in enumerate(zip(old.children, new.children)):
-            yield from _narrowed(one, two, (*path, at))
+            yield from _narrowed(one, two, (*path, at), kinds)
     else:
         yield Change(path, None, (new,))
 
@@ -77,28 +75,28 @@ def _is_kept(old: Term, new: Term) -> bool:
     return old.head == new.head and old.annotations == new.annotations and old.annotations != ()
 
 
-def _of_list(old: Term, new: Term, path: Path) -> Iterator[Change]:
+def _of_list(old: Term, new: Term, path: Path, kinds: Kinds) -> Iterator[Change]:
     places = {(it.head, position(it)): at for at, it in enumerate(old.children)}
     pairs = aligned([places.get((it.head, position(it))) if it.annotations else None for it in new.children])
     ends = (len(old.children), len(new.children))
     for (old_from, new_from), (old_to, new_to) in zip([(-1, -1), *pairs], [*pairs, ends]):
         goes, comes = old.children[old_from + 1 : old_to], new.children[new_from + 1 : new_to]
-        yield from _of_gap(path, goes, old_from + 1, comes)
+        yield from _of_gap(path, goes, old_from + 1, comes, kinds)
         if old_to < ends[0]:
-            yield from _narrowed(old.children[old_to], new.children[new_to], (*path, old_to))
+            yield from _narrowed(old.children[old_to], new.children[new_to], (*path, old_to), kinds)
 
 
 # The changes where elements come for others. An import that is new comes alone: without it other changes may be wrong, and where it
 # isn't needed it does no harm.
-def _of_gap(path: Path, goes: tuple[Term, ...], first: int, comes: tuple[Term, ...]) -> Iterator[Change]:
+def _of_gap(path: Path, goes: tuple[Term, ...], first: int, comes: tuple[Term, ...], kinds: Kinds) -> Iterator[Change]:
     begin, end, last = 0, len(comes), first + len(goes)
-    while begin < end and _is_new_import(comes[begin]):
+    while begin < end and _is_new_import(comes[begin], kinds):
         begin += 1
-    while end > begin and _is_new_import(comes[end - 1]):
+    while end > begin and _is_new_import(comes[end - 1], kinds):
         end -= 1
     if begin > 0:
         yield Change(path, (first, first), comes[:begin])
-    if _are_apart(goes, comes[begin:end]):
+    if _are_apart(goes, comes[begin:end], kinds):
         yield from (Change(path, (first + at, first + at + 1), (it,)) for at, it in enumerate(comes[begin:end]))
     elif goes or begin < end:
         yield Change(path, (first, last), comes[begin:end])
@@ -107,23 +105,19 @@ def _of_gap(path: Path, goes: tuple[Term, ...], first: int, comes: tuple[Term, .
 
 
 # Whether each of several expressions is of parts of the one in its place alone. Statements next to each other may belong together.
-def _are_apart(goes: tuple[Term, ...], comes: tuple[Term, ...]) -> bool:
-    if len(goes) != len(comes) or len(goes) < 2 or any(it.head in STATEMENTS for it in goes):
+def _are_apart(goes: tuple[Term, ...], comes: tuple[Term, ...], kinds: Kinds) -> bool:
+    if len(goes) != len(comes) or len(goes) < 2 or any(it.head in kinds.statements for it in goes):
         return False
     spans = [position(it) or (0, -1) for it in goes]
     return all(first <= place < last for (first, last), it in zip(spans, comes) for place in _pieces([it]))
 
 
-def _is_new_import(term: Term) -> bool:
-    return term.head in IMPORTS and position(term) is None
-
-
-# Nodes whose lists go together, element by element.
-_PARALLEL: Final = ("Dict", "Compare", "MatchMapping", "MatchClass")
+def _is_new_import(term: Term, kinds: Kinds) -> bool:
+    return term.head in kinds.imports and position(term) is None
 
 
 # The changes in groups: a group has all those of which one takes what another gives away, and those of lists that go together.
-def _together(old: Term, changes: list[Change]) -> list[list[Change]]:
+def _together(old: Term, changes: list[Change], kinds: Kinds) -> list[list[Change]]:
     spans = ((position(term), at) for at, it in enumerate(changes) for term in it.goes(old))
     gone = sorted((*found, at) for found, at in spans if found is not None)
     firsts = [first for first, _, _ in gone]
@@ -141,7 +135,7 @@ def _together(old: Term, changes: list[Change]) -> list[list[Change]]:
                 group[leader(gone[found][2])] = leader(at)
     nodes: dict[Path, int] = {}
     for at, it in enumerate(changes):
-        if it.path and subterm(old, it.path[:-1]).head in _PARALLEL:
+        if it.path and subterm(old, it.path[:-1]).head in kinds.parallel:
             group[leader(nodes.setdefault(it.path[:-1], at))] = leader(at)
     groups: dict[int, list[Change]] = {}
     for at, it in enumerate(changes):

@@ -6,7 +6,7 @@ from abc import abstractmethod
 from collections.abc import Sequence
 from functools import cached_property
 
-from ..terms import Term
+from ....terms import Term
 from .edits import BLOCKS, DEFINITIONS, Edit, field_of, span
 from .nodes import Nodes
 from .tokens import Token

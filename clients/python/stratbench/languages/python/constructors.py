@@ -4,10 +4,9 @@ from __future__ import annotations
 
 import ast
 import re
-from bisect import bisect_right
 from typing import Final, NamedTuple
 
-from .terms import LIST, NoTerm, Term, string, write
+from ...terms import LIST, NoTerm, Term, string, write
 
 # What versions of Python after 3.9 added. A tree of an older one has the empty list, or nothing, in a field that it lacks, so
 # that a strategy holds for trees of all versions.
@@ -174,17 +173,6 @@ def text_of(name: bytes) -> str:
 def cut(term: Term) -> str:
     text = write(term)
     return text if len(text) <= 100 else text[:97] + "..."
-
-
-class Lines:
-    """The starts of a text's lines, as Python counts them."""
-
-    def __init__(self, text: bytes) -> None:
-        self.starts = [0, *(found.end() for found in re.finditer(rb"\r\n|\r|\n", text))]
-
-    def number(self, place: int) -> int:
-        """Returns the number of the line of a place, from 1."""
-        return bisect_right(self.starts, place)
 
 
 def leaf(value: object) -> Term:
