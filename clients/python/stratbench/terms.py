@@ -266,6 +266,12 @@ def _wait(waiting: list[Term | str], terms: tuple[Term, ...]) -> None:
             waiting.append(",")
 
 
+def cut(term: Term) -> str:
+    """Returns the text of a term, or its beginning, for messages."""
+    text = write(term)
+    return text if len(text) <= 100 else text[:97] + "..."
+
+
 # The texts are read as characters of one byte each, so that words need no conversion. `_BEGIN` is the beginning of a term or
 # of several, or what closes an empty bracket; `_AFTER` is what may follow a term. Its first case is the annotation of a
 # place, as positions in a source are, which is worth a case of its own.

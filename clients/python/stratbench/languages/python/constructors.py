@@ -6,7 +6,7 @@ import ast
 import re
 from typing import Final, NamedTuple
 
-from ...terms import LIST, NoTerm, Term, string, write
+from ...terms import LIST, NoTerm, Term, cut, string
 
 # What versions of Python after 3.9 added. A tree of an older one has the empty list, or nothing, in a field that it lacks, so
 # that a strategy holds for trees of all versions.
@@ -168,11 +168,6 @@ def text_of(name: bytes) -> str:
         return name.decode(errors="surrogatepass")
     except UnicodeDecodeError:
         raise NoTerm(f"no text in UTF-8: {name!r}") from None
-
-
-def cut(term: Term) -> str:
-    text = write(term)
-    return text if len(text) <= 100 else text[:97] + "..."
 
 
 def leaf(value: object) -> Term:

@@ -24,13 +24,13 @@ from typing import Final
 
 from ...patch.edits import Lines, Patch
 from ...strategies import Pattern
-from ...terms import LIST, TUPLE, NoTerm, Shown, Term
+from ...terms import LIST, TUPLE, NoTerm, Shown, Term, cut
 from ...terms import deep as deep
 from ...terms import position as position
 from ..language import Language, Part, Path
 from . import glance
 from .constructors import CONSTRUCTORS as CONSTRUCTORS
-from .constructors import EMPTY, Constructor, Field, constant, cut, leaf, text_of, value_of
+from .constructors import EMPTY, Constructor, Field, constant, leaf, text_of, value_of
 
 
 def to_term(tree: ast.AST, lines: Lines | None = None) -> Term:

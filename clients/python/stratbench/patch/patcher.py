@@ -1,0 +1,100 @@
+"""The patch of a whole source: its edits, with the brackets that they need, checked by a parse, and the comments that are lost."""
+
+from __future__ import annotations
+
+from collections.abc import Sequence
+from typing import Optional
+
+from ..terms import NoTerm, Term
+from .brackets import Parse, Search
+from .dialect import Dialect
+from .edits import Cannot, Patch, Unwritable
+from .layout import Comment, Layout
+from .nodes import Nodes
+from .rope import notes, without
+from .ropes import RopeEdit
+from .templates import Templates
+
+
+def patch_of(dialect: Dialect, text: bytes, old: Term, new: Term, parse: Parse) -> Patch:
+    """Returns the edits that make a text spell a new tree, and the comments that it lacks then. Raises `NoTerm` where that is no tree of the
+    language, and `Unwritable` where no text was found."""
+    patcher = Patcher(dialect, text, old, new, parse)
+    if patcher.new is old:
+        return Patch([], [])
+    dialect.grammar.check(patcher.new)
+    if patcher.new.head != old.head:
+        raise NoTerm(f"the tree is no {old.head!s}")
+    why = Unwritable("no text spells the new tree")
+    # first as the file is written, then with the signs that it does without, then with nodes made anew
+    for complete, coarse in ((False, False), (True, False), (True, True)):
+        try:
+            return patcher.patch(complete, coarse)
+        except Cannot:
+            pass
+        except Unwritable as error:
+            why = error
+    raise why
+
+
+class Patcher:
+    """The patch of a source."""
+
+    def __init__(self, dialect: Dialect, text: bytes, old: Term, new: Term, parse: Parse) -> None:
+        self._dialect, self._text, self._old, self._parse = dialect, text, old, parse
+        self.layout = Layout(dialect.grammar, text, old, dialect.comment, dialect.line_comments)
+        self.new = self._shared(new, old)
+        self.parses = 0
+
+    # The new tree with the old nodes where nothing changed, so that `is` compares them.
+    def _shared(self, new: Term, candidate: Optional[Term]) -> Term:
+        if candidate is new:
+            return new
+        candidate = self.layout.origin(new) or candidate
+        if candidate is new:
+            return new
+        old = candidate.children if candidate is not None else ()
+        children = tuple([self._shared(it, old[at] if at < len(old) else None) for at, it in enumerate(new.children)])
+        if candidate is not None and (type(new.head), new.head, new.annotations) == (type(candidate.head), candidate.head, candidate.annotations):
+            if len(children) == len(old) and all(one is two for one, two in zip(children, old)):
+                return candidate
+        return Term(new.head, children, new.annotations)
+
+    # The old nodes that are in the new tree.
+    def _present(self) -> frozenset[int]:
+        found: set[int] = set()
+        waiting = [self.new]
+        while waiting:
+            it = waiting.pop()
+            origin = self.layout.origin(it)
+            if origin is not None:
+                found.add(id(origin))
+            waiting.extend(it.children)
+        return frozenset(found)
+
+    def patch(self, complete: bool, coarse: bool) -> Patch:
+        """Returns the patch. A complete one has all signs in new text. A coarse one makes each node anew of which a field of its own
+        changes."""
+        dialect, layout = self._dialect, self.layout
+        style = dialect.style(layout)._replace(without=frozenset() if complete else layout.missing())
+        templates = Templates(dialect, layout, style)
+        nodes = Nodes(dialect.grammar, layout, templates, self._present())
+        nodes.coarse = coarse
+        edits = nodes.slot(self._old, self.new)
+        edits, lost = self._owned(edits)
+        search = Search(dialect.grammar, self._text, self.new, edits, templates, layout.newline, self._parse)
+        found = search.found(nodes.frames, dialect.alone)
+        self.parses += found.parses
+        return Patch(found.assembled.edits, lost)
+
+    # The edits with each comment once, and the comments that are in none.
+    def _owned(self, edits: Sequence[RopeEdit]) -> tuple[list[RopeEdit], list[Comment]]:
+        gone: list[Comment] = []
+        for it in edits:
+            if it.first < it.last:
+                gone += self.layout.comments_in(it.first, it.last)
+        if not gone and not any(notes(it.rope) for it in edits):
+            return list(edits), []
+        there = {it.first for it in self.layout.comments} - {it.first for it in gone}
+        kept = [it._replace(rope=without(it.rope, there)) for it in edits]
+        return kept, [it for it in gone if it.first not in there]
