@@ -157,5 +157,5 @@ def _pack(out: zipfile.ZipFile, folder: Any, name: str) -> None:
     for it in folder.iterdir():
         if it.is_dir() and it.name != "__pycache__":
             _pack(out, it, f"{name}/{it.name}")
-        elif it.name.endswith(".py"):
+        elif it.name.endswith((".py", ".grammar", ".js", ".java")):
             out.writestr(f"{name}/{it.name}", it.read_bytes())

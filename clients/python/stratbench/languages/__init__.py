@@ -15,6 +15,7 @@ from .language import Language
 # The folders, with the suffixes of their files.
 _SUFFIXES: Final = {
     "python": (".py",),
+    "javascript": (".js", ".mjs", ".cjs", ".jsx", ".ts", ".mts", ".cts", ".tsx"),
 }
 NAMES: Final = tuple(_SUFFIXES)
 

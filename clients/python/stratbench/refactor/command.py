@@ -11,7 +11,9 @@ from collections.abc import Iterator, Sequence
 from types import FrameType
 from typing import Any
 
+from .. import languages
 from ..cluster import Lost, Unreachable
+from ..languages.language import Missing
 from . import files, positions
 from .batches import outcomes
 from .report import Left, Progress, Tally, counted, said
@@ -19,8 +21,8 @@ from .runs import NoProgram, check_texts, prepared
 from .task import MOST_STEPS, Task
 from .writing import STOPPING, Stopped, WriteFault, recover, write_all
 
-# The files that are taken of a folder.
-_SUFFIX = ".py"
+# Files with their contents.
+_Work = list[tuple[str, bytes]]
 
 
 def main(words: Sequence[str] | None = None) -> int:
@@ -62,12 +64,13 @@ def _stopping() -> Iterator[None]:
 def _arguments(words: Sequence[str] | None) -> argparse.Namespace:
     parser = argparse.ArgumentParser(
         prog="python -m stratbench.refactor",
-        description="Refactors files of Python by a strategy, with small patches.",
+        description="Refactors files of Python, JavaScript, TypeScript, Java, JSON and YAML by a strategy, with small patches.",
         epilog="Status: 0; 1 with --check where something would change; 2 for a wrong command line, module or strategy; "
         "3 where a file or a place was left, or files couldn't be written.",
     )
     parser.add_argument("--module", action="append", default=[], metavar="NAME=FILE", help="load a module of strategies")
     parser.add_argument("--modules", action="append", default=[], metavar="FOLDER", help="load the modules of a folder, as strategies")
+    parser.add_argument("--language", choices=languages.NAMES, help="the language of files whose suffix says none; of folders its files alone")
     parser.add_argument("--do", metavar="STRATEGY", help="the strategy that is applied to each file's tree")
     parser.add_argument("--within", type=int, metavar="K", help="the most steps that it may take, else 300 a term, and 1,000,000 at least")
     parser.add_argument("--keep-comments", action="store_true", help="leave places as they are where a comment would be lost")
@@ -81,7 +84,7 @@ def _arguments(words: Sequence[str] | None) -> argparse.Namespace:
     how.add_argument("--write", action="store_true", help="change the files, all or none")
     how.add_argument("--check", action="store_true", help="end with status 1 where something would change")
     how.add_argument("--recover", action="store_true", help="put back what a run left that was killed while it wrote, and do nothing else")
-    parser.add_argument("files", nargs="*", metavar="FILES", help="files, or folders with files *.py in them")
+    parser.add_argument("files", nargs="*", metavar="FILES", help="files, folders, or - for standard input")
     found = parser.parse_args(words)
     if not found.recover and (found.do is None or not found.files):
         parser.error(f"{'--do' if found.do is None else 'FILES'} is missing")
@@ -101,7 +104,7 @@ def _done(given: argparse.Namespace) -> int:
         return 2
     try:
         return _refactored(given, task)
-    except (Unreachable, NoProgram) as error:
+    except (Unreachable, NoProgram, Missing) as error:
         print(error, file=sys.stderr)
         return 2
     except Lost as error:
@@ -154,7 +157,11 @@ def _wrong_texts(task: Task) -> bool:
     return bool(wrong)
 
 
-def _refactored(given: argparse.Namespace, task: Task) -> int:
+# The task in a language: with what its strategy needs, where that is known, and without the modules of other languages.
+def _prepared(given: argparse.Namespace, task: Task) -> tuple[Task, bool]:
+    kept = [at for at, (name, _) in enumerate(task.modules) if _is_for(name, task.language)]
+    names = tuple(task.files[at] for at in kept)
+    task = task._replace(modules=tuple(task.modules[at] for at in kept), files=names)
     try:
         known = prepared(task)
     except NoProgram:
@@ -162,17 +169,45 @@ def _refactored(given: argparse.Namespace, task: Task) -> int:
         if given.cluster is None:
             raise
         known = task
-    if known is None and _wrong_texts(task):
-        return 2
-    task = known or task
-    contents = list(files.read(files.found(given.files, _SUFFIX)))
-    work = [(name, it) for name, it in contents if isinstance(it, bytes)]
+    return known or task, known is not None
+
+
+# Whether a module is for a language: one whose name begins with another language's isn't.
+def _is_for(module: str, language: str) -> bool:
+    first = module.partition("-")[0]
+    return first == language or first not in languages.NAMES
+
+
+def _refactored(given: argparse.Namespace, task: Task) -> int:
+    contents = list(files.read(files.found(given.files, given.language)))
+    read = [(name, it) for name, it in contents if isinstance(it, bytes)]
+    groups = files.by_language(read, given.language)
+    unknown = groups.pop(None, [])
     unread = [Left(name, f"{name}: {it}") for name, it in contents if isinstance(it, str)]
-    tally = Tally(unread, task.needs.rule() if task.needs is not None else None)
-    for it in tally.unread:
-        print(it.why, file=sys.stderr)
-    if not _shown(given, task, work, tally):
+    unread += [Left(name, f"{name}: its suffix says no language: give --language") for name, _ in unknown]
+    tasks = {language or "": _prepared(given, task._replace(language=language or "")) for language in groups or {"python": []}}
+    if not any(known for _, known in tasks.values()) and any([_wrong_texts(it) for it, _ in tasks.values()]):
         return 2
+    # a strategy of some languages leaves files of the others alone, where these were found in folders
+    apart = [language for language, (_, known) in tasks.items() if not known and any(known for _, known in tasks.values())]
+    for name in apart:
+        print(f"{languages.named(name).title}: the strategy isn't one for its {counted(len(groups.pop(name)), 'file')}", file=sys.stderr)
+    work = [it for group in groups.values() for it in group]
+    first = next((it for language, (it, _) in tasks.items() if language not in apart), task)
+    tally = Tally(unread, first.needs.rule() if first.needs is not None else None)
+    for one in tally.unread:
+        print(one.why, file=sys.stderr)
+    progress = Progress(len(work))
+    if not all([_shown(given, tasks[language or ""][0], group, tally, progress) for language, group in groups.items()]):
+        return 2
+    progress.clear()
+    if not tally.left and not tally.changed and not given.check:
+        # nothing was done: a warning may say why
+        with contextlib.suppress(NoProgram):
+            for language, group in groups.items():
+                own = tasks[language or ""][0]
+                for line in (*check_texts(own)[1], *positions.warning(group, own)):
+                    print(line, file=sys.stderr)
     written = given.write and _written(work, tally)
     status = 3 if tally.left or tally.comments(left=True) or given.write and not written else 1 if given.check and tally.changed else 0
     if given.profile:
@@ -188,9 +223,8 @@ def _refactored(given: argparse.Namespace, task: Task) -> int:
     return status
 
 
-# Shows what comes of each file. Returns false where the modules or the strategy are wrong.
-def _shown(given: argparse.Namespace, task: Task, work: list[tuple[str, bytes]], tally: Tally) -> bool:
-    progress = Progress(len(work))
+# Shows what comes of each file of a language. Returns false where the modules or the strategy are wrong.
+def _shown(given: argparse.Namespace, task: Task, work: _Work, tally: Tally, progress: Progress) -> bool:
     checked = False
     told: set[str] = set()
     for outcome in outcomes(work, task, given.jobs, given.cluster):
@@ -202,31 +236,32 @@ def _shown(given: argparse.Namespace, task: Task, work: list[tuple[str, bytes]],
             checked = True
             if _wrong_texts(task):
                 return False
-        sys.stdout.buffer.write(outcome.diff)
-        sys.stdout.buffer.flush()
+        if outcome.name != files.STANDARD or not given.write:
+            sys.stdout.buffer.write(outcome.diff)
+            sys.stdout.buffer.flush()
         for line in lines:
             # the warnings of a module once
             if line not in told:
                 print(line, file=sys.stderr)
                 told.add(line)
         progress.done(len(tally.outcomes))
-    progress.clear()
-    if not tally.left and not tally.changed and not given.check:
-        # nothing was done: a warning may say why
-        with contextlib.suppress(NoProgram):
-            for it in (*check_texts(task)[1], *positions.warning(work, task)):
-                print(it, file=sys.stderr)
     return True
 
 
 # Writes what changes. Returns false where nothing was written.
-def _written(work: list[tuple[str, bytes]], tally: Tally) -> bool:
+def _written(work: _Work, tally: Tally) -> bool:
     fault = next((f"{it.name}: the result {it.fault}" for it in tally.outcomes if it.fault), "")
     try:
         if fault:
             raise WriteFault(fault)
-        write_all([(name, before, it.contents) for (name, before), it in zip(work, tally.outcomes) if it.contents is not None])
+        changed = [(name, before, it.contents) for (name, before), it in zip(work, tally.outcomes) if it.contents is not None]
+        write_all([it for it in changed if it[0] != files.STANDARD])
     except WriteFault as error:
         print(f"nothing was written: {error}", file=sys.stderr)
         return False
+    # of standard input comes standard output, changed or not
+    for (name, before), it in zip(work, tally.outcomes):
+        if name == files.STANDARD:
+            sys.stdout.buffer.write(it.contents if it.contents is not None else before)
+            sys.stdout.buffer.flush()
     return True

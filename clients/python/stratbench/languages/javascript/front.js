@@ -1,0 +1,205 @@
+// The front end for JavaScript and TypeScript: languages/front.py has what it is asked, and what it answers.
+//
+// It is run by `node -e`, with the fields of the grammar's constructors as JSON. Trees are ESTree's, but what ESTree has under one name, or
+// two at one place, has names of its own here, so that no two children of a node overlap. Positions are bytes of the source in UTF-8.
+'use strict'
+const { parse } = require('@babel/parser')
+const fields = new Map(Object.entries(JSON.parse(process.argv[1])))
+
+const PLUGINS = { script: ['jsx'], module: ['jsx'], typescript: ['typescript', 'decorators-legacy'], tsx: ['typescript', 'jsx', 'decorators-legacy'], declarations: [['typescript', { dts: true }]] }
+
+const like = (type, it, more) => ({ ...it, ...more, type })
+const has = it => it !== null && it !== undefined && it !== false && !(Array.isArray(it) && it.length === 0)
+// A node with parts that plain JavaScript doesn't have is another constructor, so that rules for plain ones don't lose them.
+const typed = (it, names) => names.some(name => has(it[name]))
+const method = (it, more) => like('Method', { ...it.value, ...more }, { start: it.start, end: it.end, key: it.key, computed: it.computed })
+const loop = it => it && it.type === 'VariableDeclaration' ? like('LoopVariables', it) : it
+const literal = it => it.regex ? like('RegExpLiteral', it, it.regex)
+  : it.bigint !== undefined && it.bigint !== null ? like('BigIntLiteral', it, { digits: it.bigint + 'n' })
+    : it.value === null ? like('NullLiteral', it)
+      : typeof it.value === 'boolean' ? like('BooleanLiteral', it)
+        : typeof it.value === 'string' ? like('StringLiteral', it)
+          : like('NumberLiteral', it, { value: Number.isSafeInteger(it.value) ? it.value : String(it.value) })
+// where a sign is, outside of comments
+const sign = (wanted, at) => {
+  while (text[at] !== wanted) {
+    if (text.startsWith('//', at)) at = text.indexOf('\n', at)
+    else if (text.startsWith('/*', at)) at = text.indexOf('*/', at) + 2
+    else at++
+  }
+  return at
+}
+const clauses = it => {
+  const all = it.specifiers
+  const named = all.filter(it => it.type === 'ImportSpecifier')
+  const others = all.filter(it => it.type !== 'ImportSpecifier')
+  if (!named.length) return others
+  const start = sign('{', others.length ? others[others.length - 1].end : it.start)
+  return [...others, { type: 'ImportNames', specifiers: named, start, end: sign('}', named[named.length - 1].end) + 1 }]
+}
+const FUNCTION = ['returnType', 'typeParameters', 'declare', 'predicate']
+const shape = (name, of) => it => typed(it, of) ? like('Typed' + name, it) : like(name, it)
+
+const SHAPES = {
+  Literal: literal,
+  ExpressionStatement: it => it.directive !== undefined ? like('Directive', it, { raw: it.directive }) : it,
+  ForStatement: it => ({ ...it, init: loop(it.init) }),
+  ForInStatement: it => ({ ...it, left: loop(it.left) }),
+  ForOfStatement: it => ({ ...it, left: loop(it.left) }),
+  MethodDefinition: it => {
+    const made = method(it, { static: !!it.static, kind: it.kind })
+    const extra = ['decorators', 'accessibility', 'override', 'optional', 'abstract'].filter(name => has(it[name]))
+    if (!extra.length && !typed(it.value, FUNCTION)) return made
+    return like('TypedMethod', made, { decorators: it.decorators || [], accessibility: it.accessibility, override: !!it.override, optional: !!it.optional, abstract: false })
+  },
+  Property: it => it.shorthand ? like('Shorthand', it)
+    : it.method || it.kind !== 'init' ? (typed(it.value, FUNCTION)
+        ? like('TypedMethod', method(it, { static: false, kind: it.method ? 'method' : it.kind }), { decorators: [], override: false, optional: false, abstract: false })
+        : method(it, { static: false, kind: it.method ? 'method' : it.kind })) : it,
+  PropertyDefinition: it => typed(it, ['decorators', 'accessibility', 'override', 'optional', 'definite', 'declare', 'readonly', 'typeAnnotation', 'abstract'])
+    ? like('TypedPropertyDefinition', it, { decorators: it.decorators || [] }) : it,
+  MemberExpression: it => it.computed ? like('IndexExpression', it, { index: it.property }) : it,
+  UpdateExpression: it => like(it.prefix ? 'PrefixUpdate' : 'PostfixUpdate', it),
+  ArrowFunctionExpression: shape('ArrowFunction', FUNCTION),
+  FunctionExpression: shape('FunctionExpression', FUNCTION),
+  FunctionDeclaration: shape('FunctionDeclaration', FUNCTION),
+  TSDeclareFunction: it => like('TSDeclareFunction', it, { declare: !!it.declare }),
+  ClassDeclaration: shape('ClassDeclaration', ['decorators', 'implements', 'typeParameters', 'superTypeParameters', 'abstract', 'declare']),
+  ClassExpression: shape('ClassExpression', ['decorators', 'implements', 'typeParameters', 'superTypeParameters', 'abstract', 'declare']),
+  CallExpression: shape('CallExpression', ['typeParameters', 'typeArguments']),
+  NewExpression: shape('NewExpression', ['typeParameters', 'typeArguments']),
+  Identifier: it => it.typeAnnotation || it.optional ? like('TypedIdentifier', it) : it,
+  ObjectPattern: it => it.typeAnnotation ? like('TypedPattern', it, { pattern: like('ObjectPattern', it, { typeAnnotation: null, end: inner(it) }), typeAnnotation: it.typeAnnotation }) : it,
+  ArrayPattern: it => it.typeAnnotation ? like('TypedPattern', it, { pattern: like('ArrayPattern', it, { typeAnnotation: null, end: inner(it) }), typeAnnotation: it.typeAnnotation }) : it,
+  RestElement: shape('RestElement', ['typeAnnotation']),
+  VariableDeclaration: it => it.declare ? like('DeclaredVariables', it) : it,
+  VariableDeclarator: it => it.definite ? like('DefiniteDeclarator', it) : it,
+  TaggedTemplateExpression: it => like(it.typeParameters ? 'TypedTaggedTemplate' : 'TaggedTemplate', it),
+  TemplateElement: it => ({ ...it, raw: it.value.raw }),
+  TemplateLiteral: it => ({
+    ...it,
+    parts: it.quasis.flatMap((quasi, at) => at === 0 ? [quasi]
+      : [{ type: 'Interpolation', start: it.quasis[at - 1].end, end: quasi.start, expression: it.expressions[at - 1] }, quasi])
+  }),
+  ImportDeclaration: it => it.specifiers.length === 0 ? like('ImportBare', it)
+    : like(it.importKind === 'type' ? 'ImportTypes' : 'ImportDeclaration', it, { clauses: clauses(it) }),
+  ImportDefaultSpecifier: it => like('ImportDefault', it),
+  ImportNamespaceSpecifier: it => like('ImportNamespace', it),
+  ImportSpecifier: it => like(it.importKind === 'type' ? 'ImportTypeSpecifier' : 'ImportSpecifier', it, it.local.start === it.imported.start ? { local: null } : {}),
+  ExportSpecifier: it => it.local.start === it.exported.start ? { ...it, exported: null } : it,
+  ExportNamedDeclaration: it => like(it.declaration ? 'ExportDeclaration' : it.exportKind === 'type' ? 'ExportTypes' : 'ExportNames', it),
+  ExportDefaultDeclaration: it => /Declaration$|^TSDeclareFunction$/.test(it.declaration.type) ? it : like('ExportDefault', it, { expression: it.declaration }),
+  ExportAllDeclaration: it => like(it.exportKind === 'type' ? 'ExportAllTypes' : 'ExportAll', it),
+  JSXAttribute: it => it.value && it.value.type === 'Literal' ? { ...it, value: like('JSXString', it.value) } : it,
+  JSXText: it => ({ ...it, raw: it.extra ? it.extra.raw : it.raw !== undefined ? it.raw : it.value }),
+  JSXString: it => ({ ...it, raw: it.extra ? it.extra.raw : it.raw }),
+  TSParameterProperty: it => ({ ...it, override: !!it.override, readonly: !!it.readonly, decorators: it.decorators || [] }),
+  TSTypeOperator: it => ({ ...it }),
+  TSModuleDeclaration: it => ({ ...it, keyword: it.global ? 'global' : it.kind || (it.id.type === 'StringLiteral' || it.id.type === 'Literal' ? 'module' : 'namespace') }),
+  TSMappedType: it => ({ ...it, name: it.typeParameter.name, constraint: it.typeParameter.constraint, modifier: modifier(it.readonly), optional: modifier(it.optional) }),
+  TSImportType: it => ({ ...it, argument: it.argument }),
+  TSExpressionWithTypeArguments: it => ({ ...it }),
+  TSTypeParameter: it => ({ ...it, in: !!it.in, out: !!it.out, const: !!it.const })
+}
+const modifier = it => it === true ? 'yes' : it === '+' || it === '-' ? it : 'no'
+// where a pattern with a type ends itself
+const inner = it => { let at = it.typeAnnotation.start; while (/\s|\?/.test(text[at - 1])) at--; return at }
+
+const quoted = text => '"' + Buffer.from(text).toString('latin1').replace(/["\\]|[^ -~]/g, it =>
+  it === '"' ? '\\"' : it === '\\' ? '\\\\' : '\\' + it.charCodeAt(0).toString(8).padStart(3, '0')) + '"'
+
+let text, out, terms, deepest, byte, places
+function write (it, level) {
+  terms++
+  if (level > deepest) deepest = level
+  if (Array.isArray(it)) {
+    out += '['
+    for (let at = 0; at < it.length; at++) { if (at) out += ','; write(it[at], level + 1) }
+    out += ']'
+  } else if (it === null || it === undefined) out += 'Absent'
+  else if (it === true) out += 'True'
+  else if (it === false) out += 'False'
+  else if (typeof it === 'number') out += it
+  else if (typeof it === 'string') out += quoted(it)
+  else node(it, level)
+}
+
+function node (it, level) {
+  let shaped = it
+  for (let before = ''; shaped.type !== before && SHAPES[shaped.type] && shaped.shaped !== shaped.type;) {
+    before = shaped.type
+    shaped = SHAPES[before](shaped)
+    shaped.shaped = shaped.type
+  }
+  const names = fields.get(shaped.type)
+  if (!names) throw Object.assign(new Error('no constructor for ' + shaped.type), { pos: it.start })
+  out += shaped.type
+  for (let at = 0; at < names.length; at++) { out += at ? ',' : '('; write(shaped[names[at]], level + 1) }
+  if (names.length) out += ')'
+  if (places && shaped.start !== undefined) {
+    out += `{(${byte(shaped.start)},${byte(shaped.end)})}`
+    terms += 3
+    if (level + 2 > deepest) deepest = level + 2
+  }
+}
+
+// The byte of each character.
+function bytes (source) {
+  if (text.length === source.length) return at => at
+  const found = new Uint32Array(text.length + 1)
+  for (let at = 0, sum = 0; at < text.length; at++) {
+    const code = text.charCodeAt(at)
+    // the second half of a pair is where the pair ends
+    sum += code < 0x80 ? 1 : code < 0x800 ? 2 : code >= 0xd800 && code < 0xdc00 ? 4 : code >= 0xdc00 && code < 0xe000 ? 0 : 3
+    found[at + 1] = sum
+  }
+  return at => found[at]
+}
+
+const OPTIONS = { allowReturnOutsideFunction: true, allowSuperOutsideMethod: true, allowUndeclaredExports: true, allowNewTargetOutsideFunction: true, attachComment: false }
+function parsed (kind) {
+  const plugins = [['estree', { classFeatures: true }], ...PLUGINS[kind]]
+  const as = sourceType => parse(text, { ...OPTIONS, plugins, sourceType, allowAwaitOutsideFunction: sourceType === 'module' }).program
+  if (kind === 'module') return as('module')
+  const first = kind !== 'script' || /^[ \t]*(?:import|export)\b/m.test(text) ? 'module' : 'script'
+  try { return as(first) } catch (error) {
+    try { return as(first === 'module' ? 'script' : 'module') } catch { throw error }
+  }
+}
+
+function answer (kind, wanted, source) {
+  text = source.toString('utf8')
+  byte = bytes(source)
+  places = wanted
+  try {
+    const tree = parsed(kind)
+    out = ''; terms = 0; deepest = 0
+    // a program is the whole text
+    tree.start = 0; tree.end = text.length
+    write(tree, 1)
+    return `ok ${terms} ${deepest} ${out.length}\n${out}\n`
+  } catch (error) {
+    const message = String(error.message).split('\n')[0].replace(/ \(\d+:\d+\)$/, '')
+    return `no ${byte(Math.min(error.pos || 0, text.length))} ${Buffer.byteLength(message)}\n${message}\n`
+  }
+}
+
+// Pieces are joined once a request is whole.
+let got = []; let length = 0; let wanted = 0
+function serve () {
+  for (;;) {
+    if (length < wanted || length === 0) return
+    const all = got.length === 1 ? got[0] : Buffer.concat(got)
+    got = [all]
+    const end = all.indexOf(10)
+    if (end < 0) return
+    const [, kind, positions, size] = all.subarray(0, end).toString().split(' ')
+    wanted = end + 1 + Number(size)
+    if (length < wanted) return
+    process.stdout.write(answer(kind, positions === '1', all.subarray(end + 1, wanted)))
+    got = [all.subarray(wanted)]
+    length -= wanted
+    wanted = 0
+  }
+}
+process.stdin.on('data', data => { got.push(data); length += data.length; serve() })

@@ -1,0 +1,79 @@
+"""Languages other than Python: cases of patches as data, grammars on real files, and refactorings of these.
+
+What needs a front end is left out where that isn't there, and its name says what to install; with `CI=true` it fails then. On Debian it is
+installed where that can be done.
+"""
+
+import glob
+import os
+import subprocess
+import sys
+
+import grammars
+import layouts
+from stratbench import languages
+from stratbench.languages.language import Fault, Missing
+from stratbench.terms import deep
+
+PACKAGES = {"javascript": ["nodejs", "node-babel7"], "yaml": ["python3-yaml"], "java": ["default-jdk-headless"]}
+# What an empty file of each language is.
+SMALL = {"javascript": b"x", "json": b"1", "yaml": b"a: 1\n", "java": b"class A {}"}
+
+
+def missing(name, top):
+    """What a language lacks on this machine, after it was tried to install it."""
+    language = languages.named(name)
+    try:
+        language.sources([("a" + language.suffixes[0], SMALL[name])])
+        return ""
+    except Missing as error:
+        sys.path.append(f"{top}/tools")
+        from embedding import installed
+
+        if name in PACKAGES and installed(PACKAGES[name]):
+            try:
+                language.sources([("a" + language.suffixes[0], SMALL[name])])
+                return ""
+            except Missing as again:
+                return str(again)
+        return str(error)
+
+
+# Real files of a language: a few of them, or many.
+FILES = {"javascript": "/usr/share/nodejs/**/*.js"}
+
+
+def fitting(name, everything):
+    """Whether the grammar fits real files, and each made wholly anew has the same tree."""
+    language = languages.named(name)
+    files = [it for it in sorted(glob.glob(FILES[name], recursive=True)) if 500 < os.path.getsize(it) < 30_000]
+    files = files[:: max(1, len(files) // (200 if everything else 40))]
+    if not files:
+        yield f"{name}: this machine has no files", ""
+        return
+    wrong, parsed = [], 0
+    with deep():
+        for file in files:
+            with open(file, "rb") as it:
+                [source] = language.sources([(file, it.read())])
+            if isinstance(source, Fault):
+                continue
+            parsed += 1
+            wrong += [f"{file}: {what}: {node.head}" for what, node in grammars.faults(source)]
+            try:
+                grammars.anew(source)
+            except Exception as error:
+                wrong.append(f"{file}: {error}")
+    yield f"{name}: the grammar fits {parsed} files", "" if not wrong and parsed > len(files) // 2 else "\n".join(wrong[:20]) or f"{parsed} parsed"
+
+
+def tests(top, everything):
+    for name in (it for it in languages.NAMES if it != "python"):
+        lacks = missing(name, top)
+        if lacks:
+            yield f"{name}: left out: {lacks}", lacks if os.environ.get("CI") == "true" else ""
+            continue
+        for title, fault in layouts.tests(top, name):
+            yield f"{name}: {title}", fault
+        if name in FILES:
+            yield from fitting(name, everything)
