@@ -16,6 +16,8 @@ from .language import Language
 _SUFFIXES: Final = {
     "python": (".py",),
     "javascript": (".js", ".mjs", ".cjs", ".jsx", ".ts", ".mts", ".cts", ".tsx"),
+    "json": (".json", ".jsonc"),
+    "yaml": (".yaml", ".yml"),
 }
 NAMES: Final = tuple(_SUFFIXES)
 

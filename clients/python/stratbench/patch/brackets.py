@@ -23,11 +23,13 @@ _MOST_TRIES: Final = 60
 
 
 class Region(NamedTuple):
-    """Where a text has another tree than it should, and the nodes that should be there, from the outer ones on."""
+    """Where a text has another tree than it should, and the nodes that should be there, from the outer ones on; or a line in which the
+    parser found a fault, and at which place."""
 
     first: int
     last: int
     nodes: tuple[Term, ...] = ()
+    place: int = -1
 
 
 class Found(NamedTuple):
@@ -79,11 +81,11 @@ class Search:
             return []
         self._why = f"{got.message}: " if isinstance(got, Wrong) else ""
         if isinstance(got, Wrong):
-            return [Region(*_line(text, got.place))]
+            return [Region(*_line(text, got.place), place=got.place)]
         self._parses += 1
         [placed] = self._parse([text], True)
         if isinstance(placed, Wrong):
-            return [Region(*_line(text, placed.place))]
+            return [Region(*_line(text, placed.place), place=placed.place)]
         return Compared(self._grammar).regions(self._new, read(placed), len(text))
 
     # The marks of the nodes that differ in some regions, and of their parts.
@@ -111,7 +113,8 @@ class Search:
                 more = where.keys() - active - wrong
             if not more and active:
                 # a bracket where none may be: the last one before the place
-                last = max(active, key=lambda it: (where[it][0] <= regions[0].last, where[it][0]))
+                place = regions[0].place if regions[0].place >= 0 else regions[0].last
+                last = max(active, key=lambda it: (where[it][0] <= place, where[it][0] if where[it][0] <= place else -where[it][0]))
                 active, wrong = active - {last}, wrong | {last}
             elif not more:
                 break
@@ -122,7 +125,7 @@ class Search:
         raise Unwritable(f"no text spells the new tree: {self._why}{self._text_at(regions, active)!r}")
 
     def _text_at(self, regions: Sequence[Region], active: Set[int]) -> str:
-        first, last, _ = regions[0]
+        first, last = regions[0][:2]
         return self._assembled(active).text[first : min(last, first + 60)].decode(errors="replace")
 
     # The brackets that are needed: those are left out that do nothing, half of them at a time.

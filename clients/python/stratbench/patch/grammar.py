@@ -19,6 +19,7 @@ A line is a constructor and its template. In a template
     @name           a field: the text of a node, or of a name or a number
     @name{, }       a list, with what is between its elements
     @name{!} {!, }  the same where no brackets may be, as around a name that is bound; {!!} is a list with nothing between
+    @name{>}        a field whose further lines are one level deeper, with no brackets
     @name{?a|b}     a flag: a where it is true, b (or nothing) where it is false
     @name{x=a;y=b}  a word: a where it is x
     [[ @name]]      what is left out where the field is absent, or the list empty; [[..||x]] gives x then
@@ -31,6 +32,7 @@ and these lines are about constructors of a kind:
     brackets SORT ( ) [NAME]     nodes of the sort may have these around them; NAME is the constructor that such brackets are, where they are one
     atoms NAME..                 constructors whose text is one word or literal, in which nothing is changed
     text NAME..                  atoms in which blanks mean something, also those around
+    indented NAME..              atoms of which further lines are indented with the line in which they begin
     apart NAME..                 constructors that have blank lines around them in lists over lines
     absent NAME                  what stands for a field that is absent, else Absent
     words NAME..                 further constructors that are no nodes
@@ -119,6 +121,8 @@ _TOKEN: Final = re.compile(r"@@|~~|@(\w+)(?:\{([^}]*)\})?|(\[\[)|(\|\|)|(\]\])|~
 def _field(name: str, given: Optional[str], level: int) -> Field:
     if given == "!!":
         return Field(name, "list", ("",), level, True)
+    if given == ">":
+        return Field(name, level=level + 1, plain=True)
     if given is None or given == "!":
         return Field(name, level=level, plain=given == "!")
     if given.startswith("?"):
@@ -174,6 +178,7 @@ class Grammar:
         self.brackets: dict[str, Brackets] = {}
         self.atoms: frozenset[str] = frozenset()
         self.text: frozenset[str] = frozenset()
+        self.indented: frozenset[str] = frozenset()
         self.apart: frozenset[str] = frozenset()
         self.words: frozenset[str] = frozenset(["True", "False"])
         self.absent = "Absent"
@@ -189,7 +194,7 @@ class Grammar:
                 of, opens, closes, *constructor = rest.split()
                 blank = " " * len(constructor)
                 self.brackets[of] = Brackets(f"{opens}{blank}".encode(), f"{blank}{closes}".encode(), constructor[0] if constructor else None)
-            elif name in ("atoms", "text", "apart", "words"):
+            elif name in ("atoms", "text", "indented", "apart", "words"):
                 setattr(self, name, getattr(self, name) | frozenset(rest.split()))
             elif name == "absent":
                 self.absent = rest

@@ -127,7 +127,7 @@ class Templates:
         found: list[tuple[int, int]] = []
         text, at = self._layout.text, first
         while 0 <= (at := text.find(b"\n", at, last)):
-            atom = next((it for it in self._layout.around(at) if it.head in self._grammar.atoms), None)
+            atom = next((it for it in self._layout.around(at) if it.head in self._grammar.atoms - self._grammar.indented), None)
             if atom is not None and first <= span(atom)[0] and span(atom)[1] <= last:
                 found.append(span(atom))
                 at = span(atom)[1]
@@ -143,7 +143,7 @@ class Templates:
             raise NoTerm(f"no constructor of {len(new.children)} terms: {cut(new)}")
         literal = self._dialect.literal(new, like, self._style)
         if literal is not None:
-            return [literal]
+            return [*lines(literal, b"")] if new.head in self._grammar.indented else [literal]
         return self.template(constructor.parts, constructor, new)
 
     def template(self, parts: Sequence[Part], constructor: Constructor, new: Term) -> Rope:

@@ -69,8 +69,8 @@ const SHAPES = {
   CallExpression: shape('CallExpression', ['typeParameters', 'typeArguments']),
   NewExpression: shape('NewExpression', ['typeParameters', 'typeArguments']),
   Identifier: it => it.typeAnnotation || it.optional ? like('TypedIdentifier', it) : it,
-  ObjectPattern: it => it.typeAnnotation ? like('TypedPattern', it, { pattern: like('ObjectPattern', it, { typeAnnotation: null, end: inner(it) }), typeAnnotation: it.typeAnnotation }) : it,
-  ArrayPattern: it => it.typeAnnotation ? like('TypedPattern', it, { pattern: like('ArrayPattern', it, { typeAnnotation: null, end: inner(it) }), typeAnnotation: it.typeAnnotation }) : it,
+  ObjectPattern: it => it.typeAnnotation ? withType(it) : { ...it, properties: it.properties.map(pattern) },
+  ArrayPattern: it => it.typeAnnotation ? withType(it) : it,
   RestElement: shape('RestElement', ['typeAnnotation']),
   VariableDeclaration: it => it.declare ? like('DeclaredVariables', it) : it,
   VariableDeclarator: it => it.definite ? like('DefiniteDeclarator', it) : it,
@@ -101,6 +101,8 @@ const SHAPES = {
   TSExpressionWithTypeArguments: it => ({ ...it }),
   TSTypeParameter: it => ({ ...it, in: !!it.in, out: !!it.out, const: !!it.const })
 }
+const pattern = it => it.type === 'Property' && !it.shorthand ? like('PatternProperty', it) : it
+const withType = it => like('TypedPattern', it, { pattern: { ...it, typeAnnotation: null, end: inner(it) } })
 const modifier = it => it === true ? 'yes' : it === '+' || it === '-' ? it : 'no'
 // where a pattern with a type ends itself
 const inner = it => { let at = it.typeAnnotation.start; while (/\s|\?/.test(text[at - 1])) at--; return at }
