@@ -4,8 +4,12 @@ What needs a front end is left out where that isn't there, and its name says wha
 installed where that can be done.
 """
 
+import glob
 import os
+import re
 import sys
+import tempfile
+import zipfile
 
 import grammars
 import layouts
@@ -39,20 +43,35 @@ def missing(name, top):
 
 # Real files of a language: a few of them, or many.
 FOLDERS = {"javascript": "/usr/share/nodejs", "json": "/usr/share/nodejs", "yaml": "/usr/lib"}
+# The JDK's own sources, which few machines have.
+SOURCES = "/usr/lib/jvm/*/lib/src.zip"
 
 
-def real_files(name):
+def jdk_sources(room, count):
+    """So many of the JDK's sources, in a folder."""
+    for archive in sorted(it for it in glob.glob(SOURCES) if os.path.exists(it)):
+        with zipfile.ZipFile(archive) as it:
+            names = [one.filename for one in it.infolist() if re.match(r"java.base/java/(util|io|time)/.*[a-z]\.java", one.filename) and 500 < one.file_size < 40_000]
+            names = sorted(names)[:: max(1, len(names) // count)][:count]
+            it.extractall(room, names)
+            return [f"{room}/{name}" for name in names]
+    return []
+
+
+def real_files(name, room):
     """The files of a language that the machine has, of a size that is soon done."""
+    if name == "java":
+        return jdk_sources(room, 30)
     found = []
     for folder, _, files in os.walk(FOLDERS[name]):
         found += [f"{folder}/{it}" for it in files if languages.name_of(it) == name]
     return sorted(it for it in found if os.path.isfile(it) and 500 < os.path.getsize(it) < 30_000)
 
 
-def fitting(name, everything):
+def fitting(name, everything, room):
     """Whether the grammar fits real files, and each made wholly anew has the same tree."""
     language = languages.named(name)
-    files = real_files(name)
+    files = real_files(name, room)
     files = files[:: max(1, len(files) // (200 if everything else 40))]
     if not files:
         yield f"{name}: this machine has no files", ""
@@ -81,5 +100,5 @@ def tests(top, everything):
             continue
         for title, fault in layouts.tests(top, name):
             yield f"{name}: {title}", fault
-        if name in FOLDERS:
-            yield from fitting(name, everything)
+        with tempfile.TemporaryDirectory() as room:
+            yield from fitting(name, everything, room)

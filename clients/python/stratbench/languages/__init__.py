@@ -16,6 +16,7 @@ from .language import Language
 _SUFFIXES: Final = {
     "python": (".py",),
     "javascript": (".js", ".mjs", ".cjs", ".jsx", ".ts", ".mts", ".cts", ".tsx"),
+    "java": (".java",),
     "json": (".json", ".jsonc"),
     "yaml": (".yaml", ".yml"),
 }

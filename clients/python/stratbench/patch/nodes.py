@@ -181,8 +181,11 @@ class Nodes:
             # it begins the node: what follows moves up
             return RopeEdit(first, last, [])
         end = self._back(last, first, rb"\s")
+        begin = self._back(first, around[0], rb"\s")
         comments = self._layout.comments_in(around[0], first)
-        begin = first if comments and comments[-1].to_end and not self._layout.text[comments[-1].last : first].strip() else self._back(first, around[0], rb"\s")
+        if comments and comments[-1].to_end and comments[-1].last == begin and self._layout.text[end : self._layout.after_line(end)].strip():
+            # what follows would be in the comment
+            begin = first
         return RopeEdit(begin, max(begin, end), [])
 
     # The place before blanks that end at a place.
