@@ -11,7 +11,7 @@
     Traceback (most recent call last):
     stratbench.terms.NoTerm: the term ends too early
 
-`docs/manual/term-text.md` says which texts spell a term. Reading and writing don't recurse, so terms may be of any height.
+`docs/manual/term-text.md` says which texts spell a term. `read` and `write` don't recurse, so terms may be of any height.
 """
 
 from __future__ import annotations
@@ -19,7 +19,7 @@ from __future__ import annotations
 import gc
 import re
 import sys
-from collections.abc import Iterator, Mapping, Sequence
+from collections.abc import Callable, Iterator, Mapping, Sequence
 from contextlib import contextmanager
 from typing import Final, NamedTuple, Union
 
@@ -229,6 +229,33 @@ def _quoted(name: bytes) -> str:
     if _PLAIN.fullmatch(name):
         return f'"{name.decode()}"'
     return f'"{name.decode("latin-1").translate(_SPECIAL)}"'
+
+
+def plain(term: Term) -> str:
+    """Returns the text of a term without annotations.
+
+    >>> plain(read("f(a{1},[b{2}])"))
+    'f(a,[b])'
+    """
+    out: list[str] = []
+    _plain(term, out.append)
+    return "".join(out)
+
+
+def _plain(term: Term, add: Callable[[str], None]) -> None:
+    head, children, _ = term
+    is_bracket = head == LIST or head == TUPLE
+    if not is_bracket:
+        add(head if isinstance(head, str) else str(head) if isinstance(head, int) else _quoted(head))
+    if children or is_bracket:
+        add("[" if head == LIST else "(")
+        comma = False
+        for it in children:
+            if comma:
+                add(",")
+            comma = True
+            _plain(it, add)
+        add("]" if head == LIST else ")")
 
 
 def write(term: Term) -> str:

@@ -30,7 +30,7 @@ def anew(source):
     patcher = Patcher(dialect, source.text, source.term, source.term, source._again)
     new = bare(dialect.grammar, source.term)
     templates = Templates(dialect, patcher.layout, dialect.style(patcher.layout))
-    Nodes(dialect.grammar, patcher.layout, templates, frozenset())
+    Nodes(dialect.grammar, patcher.layout, templates, lambda old: False)
     edits = [RopeEdit(0, len(source.text), templates._fresh(new, b""))]
     return Search(dialect.grammar, source.text, new, edits, templates, patcher.layout.newline, source._again).found([], None, False).assembled.text
 
@@ -39,8 +39,8 @@ def faults(source):
     """What doesn't fit in a source: the constructors of nodes whose children overlap, or whose text isn't as the template has it."""
     dialect = source.language.dialect(source.kind)
     layout = Patcher(dialect, source.text, source.term, source.term, source._again).layout
-    dialect.grammar.check(source.term)
     for it in subterms(source.term):
+        dialect.grammar.check(it)
         if dialect.grammar.is_node(it) and position(it) is not None:
             try:
                 layout.gaps(it)

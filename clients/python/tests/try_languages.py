@@ -13,7 +13,7 @@ import zipfile
 
 import grammars
 import layouts
-from stratbench import languages
+from stratbench import languages, refactor
 from stratbench.languages.language import Fault, Missing
 from stratbench.terms import deep
 
@@ -92,6 +92,35 @@ def fitting(name, everything, room):
     yield f"{name}: the grammar fits {parsed} files", "" if not wrong and 2 * parsed >= min(len(files), 4) else "\n".join(wrong[:20]) or f"{parsed} parsed"
 
 
+JAVA_RULES = ["bottomup(try(IsEmpty <+ NotEqual <+ CompoundOf))", "topdown(try(ReturnTest))", "topdown(try(java-no-else-after-return))"]
+
+
+def jdk_rules(top, room):
+    """The rules for Java on the JDK's own sources: each result is a program, and the comments that are gone are named."""
+    work, modules = [], []
+    for file in jdk_sources(room, 30):
+        with open(file, "rb") as it:
+            work.append((file, it.read()))
+    for name in ("lists", "java", "java-conditions"):
+        with open(f"{top}/strategies/{name}.str", "rb") as it:
+            modules.append((name, it.read()))
+    if not work:
+        yield "java: this machine has no sources of the JDK", ""
+        return
+    for strategy in JAVA_RULES:
+        outcomes = refactor.refactored(work, refactor.Task(tuple(modules), strategy, language="java"))
+        changed = sum(it.contents is not None for it in outcomes)
+        wrong = [it.left for it in outcomes if it.left and "aren't read" not in it.left]
+        for (_, before), it in zip(work, outcomes):
+            gone = len(COMMENT.findall(before)) - len(COMMENT.findall(it.contents)) if it.contents is not None else 0
+            wrong += [f"{it.name}: {gone} comments are gone, and {len(it.comments)} are named"] * (gone != len(it.comments))
+        yield f"java: {strategy} changes {changed} of {len(work)} files of the JDK", "\n".join(wrong[:20])
+
+
+# A comment, or what looks like one in a string: both are the same before and after.
+COMMENT = re.compile(rb"//[^\n]*|/\*.*?\*/", re.DOTALL)
+
+
 def tests(top, everything):
     for name in (it for it in languages.NAMES if it != "python"):
         lacks = missing(name, top)
@@ -102,3 +131,5 @@ def tests(top, everything):
             yield f"{name}: {title}", fault
         with tempfile.TemporaryDirectory() as room:
             yield from fitting(name, everything, room)
+            if name == "java":
+                yield from jdk_rules(top, room)

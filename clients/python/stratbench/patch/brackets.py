@@ -6,7 +6,8 @@ from __future__ import annotations
 from collections.abc import Sequence, Set
 from typing import Callable, Final, NamedTuple, Optional, Union
 
-from ..terms import LIST, Term, at as subterm, position, read, write
+from ..terms import LIST, Term, plain, position, read
+from ..terms import at as subterm
 from .dialect import Alone, Wrong
 from .edits import Unwritable
 from .grammar import Grammar
@@ -48,7 +49,7 @@ class Search:
         self._grammar, self._text, self._new, self._edits, self._parse = grammar, text, new, edits, parse
         self._renderer = Renderer(newline, templates.brackets)
         self._nodes = {id(it): at for at, it in enumerate(templates.marked_nodes)}
-        self._wanted = write(_plain(new)).encode()
+        self._wanted = plain(new).encode()
         self._parses = 0
         self._why = ""
 
@@ -246,16 +247,9 @@ class Compared:
 
     def _in_list(self, one: Term, two: Term, around: Region) -> Region:
         for it, other in zip(one.children, two.children):
-            if _plain(it) != _plain(other):
+            if plain(it) != plain(other):
                 return around._replace(first=(position(other) or around[:2])[0])
         return around
-
-
-def _plain(term: Term) -> Term:
-    head, children, annotations = term
-    if not children:
-        return Term(head) if annotations else term
-    return Term(head, tuple([_plain(it) for it in children]))
 
 
 def _line(text: bytes, place: int) -> tuple[int, int]:

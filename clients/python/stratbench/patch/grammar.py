@@ -217,15 +217,12 @@ class Grammar:
         return term.head == self.absent or term.head == LIST and not term.children
 
     def check(self, term: Term) -> None:
-        """Raises `NoTerm` where a new part of the tree is none of the grammar's. Nodes with a position were checked when they were read."""
-        waiting = [term]
-        while waiting:
-            it = waiting.pop()
-            if isinstance(it.head, str) and it.head != LIST and it.head not in self.words and it.head != self.absent:
-                found = self.constructors.get(it.head)
-                if found is None or len(found.fields) != len(it.children):
-                    raise NoTerm(f"no constructor of {len(it.children)} terms: {cut(it)}")
-            waiting.extend(it.children)
+        """Raises `NoTerm` where an application is none of the grammar's."""
+        head = term.head
+        if isinstance(head, str) and head != LIST and head not in self.words and head != self.absent:
+            found = self.constructors.get(head)
+            if found is None or len(found.fields) != len(term.children):
+                raise NoTerm(f"no constructor of {len(term.children)} terms: {cut(term)}")
 
     def signature(self, module: str, said: Sequence[str] = ()) -> str:
         """Returns the module of strategies that declares the constructors, with comments after its name."""

@@ -3,7 +3,7 @@
 from __future__ import annotations
 
 import re
-from collections.abc import Sequence
+from collections.abc import Callable, Sequence
 from typing import NamedTuple, Optional, Protocol
 
 from ..terms import Term, position
@@ -35,10 +35,10 @@ class _List(NamedTuple):
 class Lists:
     """The edits of lists with signs between their elements, and of those with lines."""
 
-    def __init__(self, grammar: Grammar, layout: Layout, templates: Templates, slots: Slots, present: frozenset[int]) -> None:
+    def __init__(self, grammar: Grammar, layout: Layout, templates: Templates, slots: Slots, is_present: Callable[[Term], bool]) -> None:
         self._grammar, self._layout, self._templates, self._slots = grammar, layout, templates, slots
-        # the old nodes that are in the new tree
-        self._present = present
+        # whether an old node is in the new tree
+        self._is_present = is_present
 
     def edits(self, node: Term, field: Field, one: Term, two: Term) -> list[RopeEdit]:
         """Returns the edits where a list comes in the place of an old one."""
@@ -148,7 +148,7 @@ class Lists:
     def _exchanged(self, old: Term, new: Term, field: Field) -> RopeEdit:
         first, last = span(old)
         indent = self._layout.indent(first)
-        if id(old) in self._present:
+        if self._is_present(old):
             first, last = self._layout.leading(first), self._layout.trailing(last)
         return RopeEdit(first, last, placed(self._moved(new, field), indent))
 
@@ -162,7 +162,7 @@ class Lists:
     def _gone_line(self, item: Term) -> RopeEdit:
         layout = self._layout
         first, last = span(item)
-        if id(item) in self._present:
+        if self._is_present(item):
             # its comments go with it
             first, last = layout.leading(first), layout.trailing(last)
         start, after = layout.line(first), layout.after_line(last)

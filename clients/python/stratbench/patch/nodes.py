@@ -3,6 +3,7 @@
 from __future__ import annotations
 
 import re
+from collections.abc import Callable
 from typing import Optional
 
 from ..terms import LIST, Term, position
@@ -25,10 +26,10 @@ class Frame:
 class Nodes:
     """The edits within nodes. `frames` are the statements that have some, those inside before those around."""
 
-    def __init__(self, grammar: Grammar, layout: Layout, templates: Templates, present: frozenset[int]) -> None:
+    def __init__(self, grammar: Grammar, layout: Layout, templates: Templates, is_present: Callable[[Term], bool]) -> None:
         self._grammar, self._layout, self._templates = grammar, layout, templates
-        self._lists = Lists(grammar, layout, templates, self, present)
-        self._present = present
+        self._lists = Lists(grammar, layout, templates, self, is_present)
+        self._is_present = is_present
         self.frames: list[Frame] = []
         # whether a node of which a field of its own changes is made anew
         self.coarse = False
@@ -70,7 +71,7 @@ class Nodes:
     def _is_between(self, comment: Comment, old: Term, kept: list[tuple[int, int]]) -> bool:
         inner = self._layout.around(comment.first)[-1]
         first, last = span(inner)
-        return id(inner) not in self._present and (inner is old or any(first <= place <= last for place, _ in kept))
+        return not self._is_present(inner) and (inner is old or any(first <= place <= last for place, _ in kept))
 
     # Each comment comes after the old text that it was after, or else before what it was before.
     def _with_comments(self, rope: Rope, comments: list[Comment]) -> Rope:

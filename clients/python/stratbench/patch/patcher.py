@@ -3,6 +3,8 @@
 from __future__ import annotations
 
 from collections.abc import Sequence
+from functools import cached_property
+from operator import is_
 from typing import Optional
 
 from ..terms import NoTerm, Term
@@ -22,7 +24,6 @@ def patch_of(dialect: Dialect, text: bytes, old: Term, new: Term, parse: Parse) 
     patcher = Patcher(dialect, text, old, new, parse)
     if patcher.new is old:
         return Patch([], [])
-    dialect.grammar.check(patcher.new)
     if patcher.new.head != old.head:
         raise NoTerm(f"the tree is no {old.head!s}")
     why = Unwritable("no text spells the new tree")
@@ -50,17 +51,27 @@ class Patcher:
     def _shared(self, new: Term, candidate: Optional[Term]) -> Term:
         if candidate is new:
             return new
-        candidate = self.layout.origin(new) or candidate
-        if candidate is new:
-            return new
+        head, children, annotations = new
+        if annotations:
+            candidate = self.layout.origin(new)
+            if candidate is new:
+                return new
         old = candidate.children if candidate is not None else ()
-        children = tuple([self._shared(it, old[at] if at < len(old) else None) for at, it in enumerate(new.children)])
-        if candidate is not None and (type(new.head), new.head, new.annotations) == (type(candidate.head), candidate.head, candidate.annotations):
-            if len(children) == len(old) and all(one is two for one, two in zip(children, old)):
+        if children:
+            if len(children) == len(old):
+                children = tuple([self._shared(it, other) for it, other in zip(children, old)])
+            else:
+                children = tuple([self._shared(it, old[at] if at < len(old) else None) for at, it in enumerate(children)])
+        # an old node with this position has this head, and no other annotation
+        if candidate is not None and len(children) == len(old) and len(annotations) == len(candidate.annotations):
+            if type(head) is type(candidate.head) and head == candidate.head and all(map(is_, children, old)):
                 return candidate
-        return Term(new.head, children, new.annotations)
+        made = Term(head, children, annotations)
+        self._dialect.grammar.check(made)
+        return made
 
-    # The old nodes that are in the new tree.
+    # Looked at where something goes, or comments do.
+    @cached_property
     def _present(self) -> frozenset[int]:
         found: set[int] = set()
         waiting = [self.new]
@@ -72,13 +83,17 @@ class Patcher:
             waiting.extend(it.children)
         return frozenset(found)
 
+    # Whether an old node is in the new tree.
+    def _is_present(self, old: Term) -> bool:
+        return id(old) in self._present
+
     def patch(self, complete: bool, coarse: bool) -> Patch:
         """Returns the patch. A complete one has all signs in new text. A coarse one makes each node anew of which a field of its own
         changes."""
         dialect, layout = self._dialect, self.layout
         style = dialect.style(layout)._replace(without=frozenset() if complete else layout.missing())
         templates = Templates(dialect, layout, style)
-        nodes = Nodes(dialect.grammar, layout, templates, self._present())
+        nodes = Nodes(dialect.grammar, layout, templates, self._is_present)
         nodes.coarse = coarse
         edits = nodes.slot(self._old, self.new)
         edits, lost = self._owned(edits)
