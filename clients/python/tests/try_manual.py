@@ -1,4 +1,4 @@
-"""What the manual shows of the client's commands: each command of docs/manual/python.md prints what the page says, and each session
+"""What the manual shows of the client's commands: each command of the pages on refactoring prints what the page says, and each session
 of docs/manual/shell.md, typed at the shell, shows what is on the page: with `readline`, and with `prompt_toolkit` on the screen of
 tmux, where this machine has both."""
 
@@ -12,12 +12,20 @@ import tempfile
 import time
 
 from packages import found as python_with
+from stratbench import languages
+from stratbench.languages.language import Missing
 from stratbench.shell.commands import OWN
 from terminals import CONTROL, Terminal, Unlike, surroundings
 
 
 def tests(top, everything):
-    yield from commands(top)
+    yield from commands(top, "python.md")
+    yield from commands(top, "another-language.md")
+    try:
+        languages.named("javascript").sources([("a.js", b"")])
+        yield from commands(top, "languages.md")
+    except Missing as error:
+        yield f"docs/manual/languages.md: left out: {error}", ""
     with open(f"{top}/docs/manual/shell.md") as it:
         page = it.read()
     sessions = re.findall(r"^```\n(> .*?)^```$", page, re.MULTILINE | re.DOTALL)
@@ -110,8 +118,8 @@ def ready(tmux, before):
     raise Unlike(screen[-1_500:])
 
 
-def commands(top):
-    with open(f"{top}/docs/manual/python.md") as it:
+def commands(top, name):
+    with open(f"{top}/docs/manual/{name}") as it:
         page = it.read()
     with tempfile.TemporaryDirectory() as room:
         os.symlink(f"{top}/strategies", f"{room}/strategies")
@@ -126,5 +134,7 @@ def commands(top):
             # in the order in which a terminal shows it
             ran = subprocess.run(["bash", "-c", found["command"]], cwd=room, env=environment, stdout=subprocess.PIPE, stderr=subprocess.STDOUT, text=True)
             yield found["command"], "" if ran.stdout == found["wanted"] else ran.stdout
+        if name != "python.md":
+            return
         with open(f"{room}/shop.py") as it:
             yield "--write wrote the file", "" if "few\n    @staticmethod\n" in it.read() else "it didn't"

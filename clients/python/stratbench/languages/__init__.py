@@ -21,10 +21,19 @@ _SUFFIXES: Final = {
     "yaml": (".yaml", ".yml"),
 }
 NAMES: Final = tuple(_SUFFIXES)
+# Those that aren't in a folder here.
+_added: dict[str, Language] = {}
+
+
+def add(language: Language) -> None:
+    """Makes another language known in this process, and its suffixes."""
+    _added[language.name] = language
 
 
 def named(name: str) -> Language:
     """Returns the language of this name. Raises `ValueError`."""
+    if name in _added:
+        return _added[name]
     if name not in _SUFFIXES:
         raise ValueError(f"no language {name}: there are {', '.join(NAMES)}")
     found: Language = importlib.import_module(f"{__name__}.{name}").LANGUAGE
@@ -38,4 +47,5 @@ def name_of(file: str) -> Optional[str]:
     ('python', None)
     """
     suffix = os.path.splitext(file)[1]
-    return next((name for name, suffixes in _SUFFIXES.items() if suffix in suffixes), None)
+    known = {**_SUFFIXES, **{name: it.suffixes for name, it in _added.items()}}
+    return next((name for name, suffixes in known.items() if suffix in suffixes), None)

@@ -1,9 +1,9 @@
-"""Refactors files of Python by a strategy, with small patches.
+"""Refactors files of programs by a strategy, with small patches.
 
     python -m stratbench.refactor [--modules FOLDER] [--module NAME=FILE].. --do STRATEGY FILES..
 
-Each file is read as a term (`stratbench.python`), the strategy is previewed on it, and the patch of the source
-(`stratbench.patch`) is printed as a unified diff. `docs/manual/python.md` is the manual.
+Each file is read as a term (`stratbench.languages`), the strategy is previewed on it, and the patch of the source
+(`stratbench.patch`) is printed as a unified diff. `docs/manual/python.md` and `docs/manual/languages.md` are the manual.
 
 What is done to files and what comes of them is `task`; `files` finds and reads them, `batches` has them done in processes, `runs` asks
 the workbench, `needs` tells what it needn't be asked, `outcomes` makes patches, `writing` changes the files, `report` says what was

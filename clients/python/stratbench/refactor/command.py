@@ -185,7 +185,7 @@ def _refactored(given: argparse.Namespace, task: Task) -> int:
     unknown = groups.pop(None, [])
     unread = [Left(name, f"{name}: {it}") for name, it in contents if isinstance(it, str)]
     unread += [Left(name, f"{name}: its suffix says no language: give --language") for name, _ in unknown]
-    tasks = {language or "": _prepared(given, task._replace(language=language or "")) for language in groups or {"python": []}}
+    tasks = {language or "": _prepared(given, task._replace(language=language or "")) for language in groups or ({} if unknown else {"python": []})}
     if not any(known for _, known in tasks.values()) and any([_wrong_texts(it) for it, _ in tasks.values()]):
         return 2
     # a strategy of some languages leaves files of the others alone, where these were found in folders

@@ -38,8 +38,9 @@ const clauses = it => {
   return [...others, { type: 'ImportNames', specifiers: named, start, end: sign('}', named[named.length - 1].end) + 1 }]
 }
 const FUNCTION = ['returnType', 'typeParameters', 'declare', 'predicate']
-const shape = (name, of) => it => typed(it, of) ? like('Typed' + name, it) : like(name, it)
+const shape = (name, of) => it => typed(it, of) ? like('Typed' + name, it, { declare: !!it.declare }) : like(name, it)
 
+const classes = name => it => typed(it, ['decorators', 'implements', 'typeParameters', 'superTypeParameters', 'abstract', 'declare']) ? like('Typed' + name, it, { decorators: it.decorators || [], implements: it.implements || [], abstract: !!it.abstract, declare: !!it.declare }) : it
 const SHAPES = {
   Literal: literal,
   ExpressionStatement: it => it.directive !== undefined ? like('Directive', it, { raw: it.directive }) : it,
@@ -48,32 +49,33 @@ const SHAPES = {
   ForOfStatement: it => ({ ...it, left: loop(it.left) }),
   MethodDefinition: it => {
     const made = method(it, { static: !!it.static, kind: it.kind })
+    if (!made.body) return like('TSDeclareMethod', made, { ...flags(it), accessibility: it.accessibility })
     const extra = ['decorators', 'accessibility', 'override', 'optional', 'abstract'].filter(name => has(it[name]))
     if (!extra.length && !typed(it.value, FUNCTION)) return made
-    return like('TypedMethod', made, { decorators: it.decorators || [], accessibility: it.accessibility, override: !!it.override, optional: !!it.optional, abstract: false })
+    return like('TypedMethod', made, { ...flags(it), accessibility: it.accessibility })
   },
   Property: it => it.shorthand ? like('Shorthand', it)
     : it.method || it.kind !== 'init' ? (typed(it.value, FUNCTION)
-        ? like('TypedMethod', method(it, { static: false, kind: it.method ? 'method' : it.kind }), { decorators: [], override: false, optional: false, abstract: false })
+        ? like('TypedMethod', method(it, { kind: it.method ? 'method' : it.kind }), flags(it))
         : method(it, { static: false, kind: it.method ? 'method' : it.kind })) : it,
   PropertyDefinition: it => typed(it, ['decorators', 'accessibility', 'override', 'optional', 'definite', 'declare', 'readonly', 'typeAnnotation', 'abstract'])
-    ? like('TypedPropertyDefinition', it, { decorators: it.decorators || [] }) : it,
+    ? like('TypedPropertyDefinition', it, flags(it)) : it,
   MemberExpression: it => it.computed ? like('IndexExpression', it, { index: it.property }) : it,
   UpdateExpression: it => like(it.prefix ? 'PrefixUpdate' : 'PostfixUpdate', it),
   ArrowFunctionExpression: shape('ArrowFunction', FUNCTION),
   FunctionExpression: shape('FunctionExpression', FUNCTION),
   FunctionDeclaration: shape('FunctionDeclaration', FUNCTION),
-  TSDeclareFunction: it => like('TSDeclareFunction', it, { declare: !!it.declare }),
-  ClassDeclaration: shape('ClassDeclaration', ['decorators', 'implements', 'typeParameters', 'superTypeParameters', 'abstract', 'declare']),
-  ClassExpression: shape('ClassExpression', ['decorators', 'implements', 'typeParameters', 'superTypeParameters', 'abstract', 'declare']),
+  TSDeclareFunction: it => ({ ...it, declare: !!it.declare, async: !!it.async, generator: !!it.generator }),
+  ClassDeclaration: classes('ClassDeclaration'),
+  ClassExpression: classes('ClassExpression'),
   CallExpression: shape('CallExpression', ['typeParameters', 'typeArguments']),
   NewExpression: shape('NewExpression', ['typeParameters', 'typeArguments']),
-  Identifier: it => it.typeAnnotation || it.optional ? like('TypedIdentifier', it) : it,
+  Identifier: it => it.typeAnnotation || it.optional ? like('TypedIdentifier', it, { optional: !!it.optional }) : it,
   ObjectPattern: it => it.typeAnnotation ? withType(it) : { ...it, properties: it.properties.map(pattern) },
   ArrayPattern: it => it.typeAnnotation ? withType(it) : it,
   RestElement: shape('RestElement', ['typeAnnotation']),
   VariableDeclaration: it => it.declare ? like('DeclaredVariables', it) : it,
-  VariableDeclarator: it => it.definite ? like('DefiniteDeclarator', it) : it,
+  VariableDeclarator: it => it,
   TaggedTemplateExpression: it => like(it.typeParameters ? 'TypedTaggedTemplate' : 'TaggedTemplate', it),
   TemplateElement: it => ({ ...it, raw: it.value.raw }),
   TemplateLiteral: it => ({
@@ -94,16 +96,28 @@ const SHAPES = {
   JSXText: it => ({ ...it, raw: it.extra ? it.extra.raw : it.raw !== undefined ? it.raw : it.value }),
   JSXString: it => ({ ...it, raw: it.extra ? it.extra.raw : it.raw }),
   TSParameterProperty: it => ({ ...it, override: !!it.override, readonly: !!it.readonly, decorators: it.decorators || [] }),
-  TSTypeOperator: it => ({ ...it }),
-  TSModuleDeclaration: it => ({ ...it, keyword: it.global ? 'global' : it.kind || (it.id.type === 'StringLiteral' || it.id.type === 'Literal' ? 'module' : 'namespace') }),
-  TSMappedType: it => ({ ...it, name: it.typeParameter.name, constraint: it.typeParameter.constraint, modifier: modifier(it.readonly), optional: modifier(it.optional) }),
-  TSImportType: it => ({ ...it, argument: it.argument }),
-  TSExpressionWithTypeArguments: it => ({ ...it }),
+  TSModuleDeclaration: it => ({ ...it, declare: !!it.declare, keyword: it.global ? 'global' : it.kind || text.slice(it.start, it.id.start).trim().split(/\s+/).pop() }),
+  TSMappedType: it => ({ ...it, name: it.typeParameter.name, constraint: it.typeParameter.constraint, readonly: modifier(it.readonly), optional: modifier(it.optional) }),
+  TSTypePredicate: it => ({ ...it, asserts: !!it.asserts, type: it.type, ...(it.typeAnnotation ? { is: it.typeAnnotation.typeAnnotation } : {}) }),
+  TSFunctionType: it => ({ ...it, result: it.typeAnnotation.typeAnnotation }),
+  TSConstructorType: it => ({ ...it, abstract: !!it.abstract, result: it.typeAnnotation.typeAnnotation }),
+  TSDeclareMethod: it => ({ ...it, ...flags(it) }),
+  TSAbstractMethodDefinition: it => like('TSDeclareMethod', it, { ...it.value, start: it.start, end: it.end, ...flags(it), abstract: true, kind: it.kind }),
+  TSAbstractPropertyDefinition: it => like('TypedPropertyDefinition', it, { ...flags(it), abstract: true }),
+  TSInterfaceDeclaration: it => ({ ...it, declare: !!it.declare, extends: it.extends || [] }),
+  TSTypeAliasDeclaration: it => ({ ...it, declare: !!it.declare }),
+  TSEnumDeclaration: it => ({ ...it, declare: !!it.declare, const: !!it.const }),
+  TSPropertySignature: it => ({ ...it, readonly: !!it.readonly, computed: !!it.computed, optional: !!it.optional }),
+  TSMethodSignature: it => ({ ...it, computed: !!it.computed, optional: !!it.optional, kind: it.kind || 'method' }),
+  TSIndexSignature: it => ({ ...it, static: !!it.static, readonly: !!it.readonly }),
+  TSImportEqualsDeclaration: it => ({ ...it, isExport: !!it.isExport }),
+  TSNamedTupleMember: it => ({ ...it, optional: !!it.optional }),
   TSTypeParameter: it => ({ ...it, in: !!it.in, out: !!it.out, const: !!it.const })
 }
+const modifier = it => it === true ? 'yes' : it === '+' || it === '-' ? it : 'no'
+const flags = it => ({ decorators: it.decorators || [], static: !!it.static, override: !!it.override, optional: !!it.optional, abstract: !!it.abstract, readonly: !!it.readonly, declare: !!it.declare, definite: !!it.definite, computed: !!it.computed })
 const pattern = it => it.type === 'Property' && !it.shorthand ? like('PatternProperty', it) : it
 const withType = it => like('TypedPattern', it, { pattern: { ...it, typeAnnotation: null, end: inner(it) } })
-const modifier = it => it === true ? 'yes' : it === '+' || it === '-' ? it : 'no'
 // where a pattern with a type ends itself
 const inner = it => { let at = it.typeAnnotation.start; while (/\s|\?/.test(text[at - 1])) at--; return at }
 
@@ -127,6 +141,8 @@ function write (it, level) {
 }
 
 function node (it, level) {
+  // brackets aren't in the tree
+  while (it.type === 'TSParenthesizedType') it = it.typeAnnotation
   let shaped = it
   for (let before = ''; shaped.type !== before && SHAPES[shaped.type] && shaped.shaped !== shaped.type;) {
     before = shaped.type
