@@ -46,6 +46,11 @@ def same(got, wanted):
 
 def data(top):
     """JSON and YAML, which need no other program."""
+    try:
+        languages.named("yaml").sources([("a.yaml", b"a: 1")])
+    except Missing as error:
+        yield f"YAML: left out: {error}", str(error) if os.environ.get("CI") == "true" else ""
+        return
     room = Room(top, {
         "words.str": WORDS, "texts.str": TEXTS, "a/b.json": '["old"]\n', "a/c.yaml": "- old\n", "a/d.txt": "old\n", "a/e.py": "old\n", "a/.gitignore": "out\n*.tmp.json\n",
         "a/out/f.json": '["old"]\n', "a/g.tmp.json": '["old"]\n', "mark.json": b'\xef\xbb\xbf["old",\r\n "\xc3\xa4"]\r\n', "latin.yaml": b"a: old # \xe4\n",

@@ -9,6 +9,7 @@ from __future__ import annotations
 
 import os
 import subprocess
+import tempfile
 import threading
 import weakref
 from collections.abc import Callable, Sequence
@@ -32,6 +33,7 @@ class Front:
     def __init__(self, words: Callable[[], Sequence[str]], missing: str) -> None:
         self._words, self._missing = words, missing
         self._process: Optional[subprocess.Popen[bytes]] = None
+        self._said: Optional[IO[bytes]] = None
         self._owner = 0
 
     def parsed(self, kind: str, sources: Sequence[bytes], places: bool) -> list[Union[Parsed, Wrong]]:
@@ -49,8 +51,10 @@ class Front:
     def _running(self) -> subprocess.Popen[bytes]:
         # one that was started before a fork is the other process's
         if self._process is None or self._owner != os.getpid():
+            # what it says goes to a file, so that nobody has to read it for the process to go on
+            self._said = tempfile.TemporaryFile()
             try:
-                self._process = subprocess.Popen(self._words(), stdin=subprocess.PIPE, stdout=subprocess.PIPE, stderr=subprocess.PIPE)
+                self._process = subprocess.Popen(self._words(), stdin=subprocess.PIPE, stdout=subprocess.PIPE, stderr=self._said)
             except OSError as error:
                 raise Missing(f"{self._missing} ({error})") from None
             self._owner = os.getpid()
@@ -68,9 +72,11 @@ class Front:
 
     def _ended(self) -> Missing:
         process, self._process = self._process, None
-        assert process is not None and process.stderr is not None
-        said = process.stderr.read().decode(errors="replace").strip().splitlines()
-        why = next((it for it in said if "Error" in it or "error" in it), said[-1] if said else f"status {process.wait()}")
+        assert process is not None and self._said is not None
+        status = process.wait()
+        self._said.seek(0)
+        said = self._said.read().decode(errors="replace").strip().splitlines()
+        why = next((it for it in said if "Error" in it or "error" in it), said[-1] if said else f"status {status}")
         return Missing(f"{self._missing} ({why})")
 
 
