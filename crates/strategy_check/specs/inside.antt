@@ -1,6 +1,7 @@
 pub mod Changing
 pub mod CheckedCodes
 pub mod Closing
+pub mod FaultLists
 pub mod FirstFault
 pub mod Grouping
 pub mod Mentioned

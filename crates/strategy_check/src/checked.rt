@@ -10,7 +10,7 @@ ghost use Rattle.strategy_check.specs.inside.Staying.{StaysFaultless, own_count}
 
 use crate::CheckFault;
 use crate::changes::{defines_again, has_clash, misses_constructor, misses_definition};
-use crate::modules::check_modules;
+use crate::modules::find_faults;
 use crate::named::NamedModule;
 use crate::program::{Program, check};
 use crate::table::Table;
@@ -92,7 +92,7 @@ impl Checked {
     {
         let after = split_off(&mut self.modules, at + gone)?;
         let old = split_off(&mut self.modules, at)?;
-        let table = joined_table(alloc, &self.modules, &new, &after)?;
+        let table = Table::of_parts(alloc, &self.modules, &new, &after)?;
         if stays_faultless(
             alloc,
             primitives,
@@ -196,21 +196,6 @@ fn split_off(modules: &mut Vec<NamedModule>, at: usize) -> Result<Vec<NamedModul
     Ok(modules.split_off(at)?)
 }
 
-// The table of the first modules, the new ones and those after.
-fn joined_table(
-    alloc: Global,
-    first: &[NamedModule],
-    new: &[NamedModule],
-    after: &[NamedModule],
-) -> Result<Table, NoMemory>
-    ensures { IfOk result (λ table. table ≡ table_of (first.now ++ (new.now ++ after.now))) }
-{
-    let mut table = Table::new(alloc, first)?;
-    table.add_all(new)?;
-    table.add_all(after)?;
-    Ok(table)
-}
-
 // Whether no module has a fault, as far as that is seen without a look into the modules that stay.
 fn stays_faultless<M: Meaning>(
     alloc: Global,
@@ -237,11 +222,7 @@ fn stays_faultless<M: Meaning>(
     if is_noticed(before, after, last, old, new) {
         return Ok(false);
     }
-    match check_modules(alloc, after, primitives, new) {
-        Ok(()) => Ok(true),
-        Err(CheckFault::Memory) => Err(NoMemory),
-        Err(_) => Ok(false),
-    }
+    Ok(find_faults(alloc, after, primitives, new, 1)?.is_empty())
 }
 
 // Whether modules that stay mention a definition or a constructor that comes or goes.

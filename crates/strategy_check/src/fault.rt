@@ -1,8 +1,6 @@
 //! The faults that the checker finds.
 
-ghost use Rattle.std.specs.Prelude.{◌≡◌, true};
-ghost use Rattle.strategy_check.specs.Faults.{IsTold};
-ghost use Rattle.strategy_check.specs.inside.FirstFault.{fault_when};
+ghost use Rattle.std.specs.Prelude.{◌≡◌};
 ghost use Rattle.strategy_check.specs.Words.{word_of};
 
 use std::fmt;
@@ -74,15 +72,5 @@ impl From<NoMemory> for CheckFault {
 
     fn from(_refused: NoMemory) -> CheckFault {
         CheckFault::Memory
-    }
-}
-
-/// This fault, or `Memory` if memory couldn't grow.
-pub fn fault(kind: FaultKind, name: &Name, first: usize, second: usize) -> CheckFault
-    ensures { IsTold result (fault_when true kind name.now first second) }
-{
-    match name.try_clone() {
-        Ok(name) => CheckFault::Fault(kind, name, first as u64, second as u64),
-        Err(_) => CheckFault::Memory,
     }
 }

@@ -1,46 +1,87 @@
-//! The first fault in a list of names and in the header of a definition.
-#![tactic(auto, using(crate::proofs::FaultLemmas::told))]
+//! The faults in a list of names and in the header of a definition.
+#![tactic(auto)]
 
-ghost use Rattle.std.specs.Prelude.{◌≡◌, ◌∷◌, ◌++◌, [], OnOk};
+ghost use Rattle.std.specs.Prelude.{◌≡◌, ◌++◌, [], OnOk};
 ghost use Rattle.indexmap.specs.IndexSet.{insert_key};
 ghost use Rattle.term_core.specs.Tree.{same_name};
-ghost use Rattle.strategy_check.specs.inside.FirstFault.{Tells, first_repeated, first_in_header};
+ghost use Rattle.strategy_syntax.specs.Lists.{is_among, with_new};
+ghost use Rattle.strategy_check.specs.Faults.{fault_if, repeated_names, header_faults};
+ghost use Rattle.strategy_check.specs.inside.FaultLists.{with_faults, repeated_faults};
 
-use crate::fault::fault;
+use crate::FaultKind;
+use crate::binders::Binding;
 use crate::key::DefinitionKey;
+use crate::list::FaultList;
 use crate::table::Table;
-use crate::{CheckFault, FaultKind};
 use indexmap::IndexSet;
 use std::alloc::Global;
 use strategy_syntax::Definition;
 use term_core::{Name, NoMemory};
 
-/// The fault of a list of names, given in two parts, if one is repeated.
-pub fn check_names(alloc: Global, names: &[Name], further: &[Name]) -> Result<(), CheckFault>
-    ensures { Tells result (first_repeated [] (names.now ++ further.now)) }
+/// Adds the faults of the variables of a scope: each that is repeated.
+pub fn check_names(
+    alloc: Global,
+    names: &[Name],
+    binding: &Binding<'_>,
+    faults: &mut FaultList,
+) -> Result<(), NoMemory>
+    ensures { OnOk result (faults.new ≡ with_faults faults.old (repeated_names names.now)) }
 {
     let mut seen = IndexSet::new(alloc);
-    check_distinct(&mut seen, names)?;
-    check_distinct(&mut seen, further)
+    check_distinct(&mut seen, names, binding, faults)
 }
 
-// The fault of the first name that was seen before.
-fn check_distinct(seen: &mut IndexSet<Name>, names: &[Name]) -> Result<(), CheckFault>
-    ensures told { Tells result (first_repeated seen.old.keys names.now) }
-    ensures seen { OnOk result (seen.new.keys ≡ seen.old.keys ++ names.now) }
+// Adds the parameters of a definition that are repeated.
+fn check_parameters(
+    alloc: Global,
+    definition: &Definition,
+    faults: &mut FaultList,
+) -> Result<(), NoMemory>
+    ensures { OnOk result (faults.new ≡ with_faults faults.old (repeated_names
+        (definition.now.strategy_parameters ++ definition.now.term_parameters))) }
 {
-    for name in names {
-        check_new(seen, name)?;
+    let mut seen = IndexSet::new(alloc);
+    let strategies = Binding::Strategies(definition);
+    check_distinct(
+        &mut seen,
+        definition.strategy_parameters(),
+        &strategies,
+        faults,
+    )?;
+    let terms = Binding::Terms(definition);
+    check_distinct(&mut seen, definition.term_parameters(), &terms, faults)
+}
+
+// Adds each name that was seen before, or is repeated.
+fn check_distinct(
+    seen: &mut IndexSet<Name>,
+    names: &[Name],
+    binding: &Binding<'_>,
+    faults: &mut FaultList,
+) -> Result<(), NoMemory>
+    ensures faults { OnOk result (faults.new
+        ≡ with_faults faults.old (repeated_faults seen.old.keys names.now)) }
+    ensures seen { OnOk result (seen.new.keys ≡ with_new same_name seen.old.keys names.now) }
+{
+    for (index, name) in names.iter().enumerate() {
+        check_new(seen, name, binding, index, faults)?;
     }
     Ok(())
 }
 
-fn check_new(seen: &mut IndexSet<Name>, name: &Name) -> Result<(), CheckFault>
-    ensures told { Tells result (first_repeated seen.old.keys (name.now ∷ [])) }
-    ensures seen { OnOk result (seen.new.keys ≡ seen.old.keys ++ name.now ∷ []) }
+fn check_new(
+    seen: &mut IndexSet<Name>,
+    name: &Name,
+    binding: &Binding<'_>,
+    index: usize,
+    faults: &mut FaultList,
+) -> Result<(), NoMemory>
+    ensures faults { OnOk result (faults.new ≡ with_faults faults.old
+        (fault_if (is_among same_name name.now seen.old.keys) FaultKind.Parameter name.now 0 0)) }
+    ensures seen { OnOk result (seen.new.keys ≡ insert_key same_name seen.old.keys name.now) }
 {
     if seen.contains(name) {
-        return Err(fault(FaultKind::Parameter, name, 0, 0));
+        return faults.add(FaultKind::Parameter, name, 0, 0, binding.place(index));
     }
     add_name(seen, name.try_clone()?)?;
     Ok(())
@@ -52,29 +93,24 @@ fn add_name(seen: &mut IndexSet<Name>, name: Name) -> Result<bool, NoMemory>
     Ok(seen.insert(name)?)
 }
 
-/// The first fault in the header of a definition, given those of earlier modules.
+/// Adds the faults in the header of a definition, given those of earlier modules.
 pub fn check_header(
     alloc: Global,
     table: &Table,
     earlier: &IndexSet<DefinitionKey>,
     definition: &Definition,
-) -> Result<(), CheckFault>
-    ensures { Tells result
-        (first_in_header table.now earlier.now.keys definition.now) }
+    faults: &mut FaultList,
+) -> Result<(), NoMemory>
+    ensures { OnOk result (faults.new
+        ≡ with_faults faults.old (header_faults table.now earlier.now.keys definition.now)) }
 {
-    check_names(
-        alloc,
-        definition.strategy_parameters(),
-        definition.term_parameters(),
-    )?;
+    check_parameters(alloc, definition, faults)?;
     let strategies = definition.strategy_parameters().len();
     let terms = definition.term_parameters().len();
     let name = definition.name();
-    if earlier.contains(&DefinitionKey::new(name, strategies, terms)?) {
-        return Err(fault(FaultKind::Twice, name, strategies, terms));
-    }
-    if terms == 0 && table.declares(name, strategies)? {
-        return Err(fault(FaultKind::Clash, name, strategies, 0));
-    }
-    Ok(())
+    let place = definition.place().token(0);
+    let is_twice = earlier.contains(&DefinitionKey::new(name, strategies, terms)?);
+    faults.add_if(is_twice, FaultKind::Twice, name, strategies, terms, place)?;
+    let is_clash = terms == 0 && table.declares(name, strategies)?;
+    faults.add_if(is_clash, FaultKind::Clash, name, strategies, 0, place)
 }

@@ -1,12 +1,15 @@
-//! The first fault in modules.
-#![tactic(auto, using(crate::proofs::FaultLemmas::told))]
+//! The faults in modules.
+#![tactic(auto, using(crate::proofs::FaultLemmas::added))]
 
-ghost use Rattle.std.specs.Prelude.{[]};
-ghost use Rattle.strategy_check.specs.inside.FirstFault.{Tells, first_in_definition, first_in_definitions, first_in_modules};
+ghost use Rattle.std.specs.Prelude.{◌≡◌, [], flat_map, IfOk, OnOk};
+ghost use Rattle.strategy_syntax.specs.Lists.{with_new};
+ghost use Rattle.strategy_check.specs.Tables.{definitions_of, keys_of, same_key};
+ghost use Rattle.strategy_check.specs.Faults.{definition_faults, faults_from};
+ghost use Rattle.strategy_check.specs.inside.FaultLists.{with_faults};
 
-use crate::CheckFault;
 use crate::headers::check_header;
 use crate::key::DefinitionKey;
+use crate::list::FaultList;
 use crate::named::NamedModule;
 use crate::strategies::check_strategy;
 use crate::table::{Table, add_definitions};
@@ -15,21 +18,37 @@ use prim_core::{Meaning, Primitives};
 use std::alloc::Global;
 use strategy_names::Binders;
 use strategy_syntax::Definition;
+use term_core::NoMemory;
 
-/// The first fault in modules, in order.
+/// Adds the faults of modules, in order, and the keys of their definitions to those of earlier
+/// modules. The index of the first one is `start`.
 pub fn check_modules<M: Meaning>(
     alloc: Global,
     table: &Table,
     primitives: &Primitives<M>,
+    earlier: &mut IndexSet<DefinitionKey>,
     modules: &[NamedModule],
-) -> Result<(), CheckFault>
-    ensures { Tells result (first_in_modules table.now primitives.now [] modules.now) }
+    start: usize,
+    faults: &mut FaultList,
+) -> Result<(), NoMemory>
+    ensures faults { OnOk result (faults.new ≡ with_faults faults.old
+        (faults_from table.now primitives.now earlier.old.keys modules.now)) }
+    ensures earlier { OnOk result (earlier.new.keys
+        ≡ with_new same_key earlier.old.keys (keys_of (definitions_of modules.now))) }
 {
-    let mut earlier = IndexSet::new(alloc);
-    for named in modules {
-        let module = named.module();
-        check_definitions(alloc, table, primitives, &earlier, module.definitions())?;
-        add_definitions(&mut earlier, module.definitions())?;
+    for (index, named) in modules.iter().enumerate() {
+        let definitions = named.module().definitions();
+        let number = start.saturating_add(index);
+        check_definitions(
+            alloc,
+            table,
+            primitives,
+            earlier,
+            definitions,
+            number,
+            faults,
+        )?;
+        add_definitions(earlier, definitions)?;
     }
     Ok(())
 }
@@ -40,12 +59,15 @@ fn check_definitions<M: Meaning>(
     primitives: &Primitives<M>,
     earlier: &IndexSet<DefinitionKey>,
     definitions: &[Definition],
-) -> Result<(), CheckFault>
-    ensures { Tells result
-        (first_in_definitions table.now primitives.now earlier.now.keys definitions.now) }
+    module: usize,
+    faults: &mut FaultList,
+) -> Result<(), NoMemory>
+    ensures { OnOk result (faults.new ≡ with_faults faults.old
+        (flat_map (definition_faults table.now primitives.now earlier.now.keys) definitions.now)) }
 {
-    for definition in definitions {
-        check_definition(alloc, table, primitives, earlier, definition)?;
+    for (index, definition) in definitions.iter().enumerate() {
+        faults.enter(module, index);
+        check_definition(alloc, table, primitives, earlier, definition, faults)?;
     }
     Ok(())
 }
@@ -56,12 +78,48 @@ fn check_definition<M: Meaning>(
     primitives: &Primitives<M>,
     earlier: &IndexSet<DefinitionKey>,
     definition: &Definition,
-) -> Result<(), CheckFault>
-    ensures { Tells result
-        (first_in_definition table.now primitives.now earlier.now.keys definition.now) }
+    faults: &mut FaultList,
+) -> Result<(), NoMemory>
+    ensures { OnOk result (faults.new ≡ with_faults faults.old
+        (definition_faults table.now primitives.now earlier.now.keys definition.now)) }
 {
-    check_header(alloc, table, earlier, definition)?;
+    if faults.is_full() {
+        return Ok(());
+    }
+    check_header(alloc, table, earlier, definition, faults)?;
     let mut names = Binders::new(alloc);
     names.open_all(definition.strategy_parameters(), 0)?;
-    check_strategy(alloc, table, primitives, &mut names, definition.body())
+    check_strategy(
+        alloc,
+        table,
+        primitives,
+        &mut names,
+        definition.body(),
+        faults,
+    )
+}
+
+/// The first faults of these modules, `most` at most, in a table that may have more.
+pub fn find_faults<M: Meaning>(
+    alloc: Global,
+    table: &Table,
+    primitives: &Primitives<M>,
+    modules: &[NamedModule],
+    most: usize,
+) -> Result<FaultList, NoMemory>
+    ensures { IfOk result (λ found. found ≡ with_faults (record { items = []; room = most })
+        (faults_from table.now primitives.now [] modules.now)) }
+{
+    let mut earlier = IndexSet::new(alloc);
+    let mut faults = FaultList::new(alloc, most);
+    check_modules(
+        alloc,
+        table,
+        primitives,
+        &mut earlier,
+        modules,
+        0,
+        &mut faults,
+    )?;
+    Ok(faults)
 }

@@ -13,7 +13,8 @@ use crate::CheckFault;
 use crate::bodies::resolve_strategy;
 use crate::changes::new_numbers;
 use crate::groups::{group_definitions, join_groups};
-use crate::modules::check_modules;
+use crate::list::FaultList;
+use crate::modules::find_faults;
 use crate::named::NamedModule;
 use crate::scope::Scope;
 use crate::strategies::check_strategy;
@@ -193,7 +194,7 @@ pub fn check<M: Meaning>(
     ensures in_range { IfOk result (λ checked. BodiesInRange checked primitives.now) }
 {
     let table = Table::new(alloc, modules)?;
-    check_modules(alloc, &table, primitives, modules)?;
+    find_faults(alloc, &table, primitives, modules, 1)?.into_first()?;
     let groups = group_definitions(alloc, &table, modules)?;
     let bodies = join_groups(alloc, &table, primitives, groups.as_slice())?;
     Ok(Program { table, bodies })
@@ -216,7 +217,16 @@ pub fn resolve<M: Meaning>(
     ensures in_range { IfOk result (λ whole. IsInRange program.now primitives.now 0 0 whole) }
 {
     let mut names = Binders::new(alloc);
-    check_strategy(alloc, &program.table, primitives, &mut names, strategy)?;
+    let mut faults = FaultList::new(alloc, 1);
+    check_strategy(
+        alloc,
+        &program.table,
+        primitives,
+        &mut names,
+        strategy,
+        &mut faults,
+    )?;
+    faults.into_first()?;
     let whole = resolve_checked(alloc, &program.table, primitives, strategy)?;
     Ok(whole)
 }

@@ -1,22 +1,24 @@
-//! The first fault in a strategy.
-#![tactic(auto, using(crate::proofs::FaultLemmas::told))]
+//! The faults in a strategy.
+#![tactic(auto, using(crate::proofs::FaultLemmas::added))]
 
-ghost use Rattle.std.specs.Prelude.{◌≡◌, OnOk};
+ghost use Rattle.std.specs.Prelude.{◌≡◌, not, OnOk};
 ghost use Rattle.strategy_syntax.specs.Syntax.{strategies_of};
-ghost use Rattle.strategy_check.specs.inside.FirstFault.{Tells, first_in_name, first_in_primitive, first_in_strategy, first_in_strategies};
+ghost use Rattle.strategy_check.specs.Faults.{fault_if, is_primitive, name_faults, strategy_faults, faults_of_strategies};
+ghost use Rattle.strategy_check.specs.inside.FaultLists.{with_faults};
 
-use crate::fault::fault;
+use crate::FaultKind;
+use crate::binders::Binding;
 use crate::headers::check_names;
+use crate::list::FaultList;
 use crate::patterns::{PatternUse, check_pattern, check_patterns};
 use crate::table::Table;
-use crate::{CheckFault, FaultKind};
 use prim_core::{Meaning, Primitives};
 use std::alloc::Global;
 use strategy_names::Binders;
-use strategy_syntax::{Strategy, StrategyForm};
-use term_core::Name;
+use strategy_syntax::{Place, Strategy, StrategyForm};
+use term_core::{Name, NoMemory};
 
-/// The first fault in a strategy, with these strategy names in scope.
+/// Adds the faults of a strategy, with these strategy names in scope.
 #[cycle(strategy)]
 pub fn check_strategy<M: Meaning>(
     alloc: Global,
@@ -24,59 +26,75 @@ pub fn check_strategy<M: Meaning>(
     primitives: &Primitives<M>,
     names: &mut Binders,
     strategy: &Strategy,
-) -> Result<(), CheckFault>
-    ensures told { Tells result
-        (first_in_strategy table.now primitives.now names.old strategy.now) }
+    faults: &mut FaultList,
+) -> Result<(), NoMemory>
+    ensures faults { OnOk result (faults.new ≡ with_faults faults.old
+        (strategy_faults table.now primitives.now names.old strategy.now)) }
     ensures names { OnOk result (names.new ≡ names.old) }
 {
     match strategy.form() {
         StrategyForm::Id | StrategyForm::Fail => Ok(()),
-        StrategyForm::Match(pattern) => check_pattern(alloc, table, PatternUse::Match, pattern),
-        StrategyForm::Build(pattern) => check_pattern(alloc, table, PatternUse::Build, pattern),
+        StrategyForm::Match(pattern) => check_pattern(
+            alloc,
+            table,
+            PatternUse::Match,
+            pattern,
+            faults,
+        ),
+        StrategyForm::Build(pattern) => check_pattern(
+            alloc,
+            table,
+            PatternUse::Build,
+            pattern,
+            faults,
+        ),
         StrategyForm::Seq(parts) => {
-            check_strategy(alloc, table, primitives, names, &parts.0)?;
-            check_strategy(alloc, table, primitives, names, &parts.1)
+            check_strategy(alloc, table, primitives, names, &parts.0, faults)?;
+            check_strategy(alloc, table, primitives, names, &parts.1, faults)
         }
         StrategyForm::Guard(parts) => {
-            check_strategy(alloc, table, primitives, names, &parts.0)?;
-            check_strategy(alloc, table, primitives, names, &parts.1)?;
-            check_strategy(alloc, table, primitives, names, &parts.2)
+            check_strategy(alloc, table, primitives, names, &parts.0, faults)?;
+            check_strategy(alloc, table, primitives, names, &parts.1, faults)?;
+            check_strategy(alloc, table, primitives, names, &parts.2, faults)
         }
         StrategyForm::Scope(variables, part) => {
-            check_names(alloc, variables, &[])?;
-            check_strategy(alloc, table, primitives, names, part)
+            check_names(alloc, variables, &Binding::Scope(strategy), faults)?;
+            check_strategy(alloc, table, primitives, names, part, faults)
         }
         StrategyForm::Use(name, parts, terms) => {
-            check_name(table, names, name, parts.len(), terms.len())?;
-            check_strategies(alloc, table, primitives, names, parts)?;
-            check_patterns(alloc, table, PatternUse::Build, terms)
+            let place = strategy.place();
+            check_name(table, names, name, parts.len(), terms.len(), place, faults)?;
+            check_strategies(alloc, table, primitives, names, parts, faults)?;
+            check_patterns(alloc, table, PatternUse::Build, terms, faults)
         }
         StrategyForm::Congruence(_, parts) => {
-            check_strategies(alloc, table, primitives, names, parts)
+            check_strategies(alloc, table, primitives, names, parts, faults)
         }
         StrategyForm::TailCongruence(parts, tail) => {
-            check_strategies(alloc, table, primitives, names, parts)?;
-            check_strategy(alloc, table, primitives, names, tail)
+            check_strategies(alloc, table, primitives, names, parts, faults)?;
+            check_strategy(alloc, table, primitives, names, tail, faults)
         }
         StrategyForm::Test(part)
         | StrategyForm::All(part)
         | StrategyForm::One(part)
         | StrategyForm::Some(part)
-        | StrategyForm::Child(_, part) => check_strategy(alloc, table, primitives, names, part),
+        | StrategyForm::Child(_, part) => check_strategy(
+            alloc, table, primitives, names, part, faults,
+        ),
         StrategyForm::Rec(name, part) => {
             names.open(name, names.len())?;
-            check_strategy(alloc, table, primitives, names, part)?;
+            check_strategy(alloc, table, primitives, names, part, faults)?;
             names.close()?;
             Ok(())
         }
         StrategyForm::Prim(name, terms) => {
-            check_primitive(primitives, name, terms.len())?;
-            check_patterns(alloc, table, PatternUse::Build, terms)
+            check_primitive(primitives, name, terms.len(), strategy.place(), faults)?;
+            check_patterns(alloc, table, PatternUse::Build, terms, faults)
         }
     }
 }
 
-/// The first fault in strategies, from left to right.
+/// Adds the faults of strategies, from left to right.
 #[cycle(strategy)]
 fn check_strategies<M: Meaning>(
     alloc: Global,
@@ -84,31 +102,35 @@ fn check_strategies<M: Meaning>(
     primitives: &Primitives<M>,
     names: &mut Binders,
     strategies: &[Strategy],
-) -> Result<(), CheckFault>
-    ensures told { Tells result
-        (first_in_strategies table.now primitives.now names.old (strategies_of strategies.now)) }
+    faults: &mut FaultList,
+) -> Result<(), NoMemory>
+    ensures faults { OnOk result (faults.new ≡ with_faults faults.old
+        (faults_of_strategies table.now primitives.now names.old (strategies_of strategies.now))) }
     ensures names { OnOk result (names.new ≡ names.old) }
 {
     for strategy in strategies {
-        check_strategy(alloc, table, primitives, names, strategy)?;
+        check_strategy(alloc, table, primitives, names, strategy, faults)?;
     }
     Ok(())
 }
 
-// The fault of a name with these numbers of strategies and terms: a strategy name in scope takes
-// none, and any other name is a definition or, without terms, a constructor.
+// Adds the fault of a name with these numbers of strategies and terms: a strategy name in scope
+// takes none, and any other name is a definition or, without terms, a constructor.
 fn check_name(
     table: &Table,
     names: &Binders,
     name: &Name,
     strategies: usize,
     terms: usize,
-) -> Result<(), CheckFault>
-    ensures { Tells result (first_in_name table.now names.now name.now strategies terms) }
+    place: Place,
+    faults: &mut FaultList,
+) -> Result<(), NoMemory>
+    ensures { OnOk result (faults.new ≡ with_faults faults.old
+        (name_faults table.now names.now name.now strategies terms)) }
 {
     if names.number(name).is_some() {
         if strategies > 0 || terms > 0 {
-            return Err(fault(FaultKind::Parameter, name, strategies, terms));
+            return faults.add(FaultKind::Parameter, name, strategies, terms, place);
         }
         return Ok(());
     }
@@ -118,18 +140,21 @@ fn check_name(
     if terms == 0 && table.declares(name, strategies)? {
         return Ok(());
     }
-    Err(fault(FaultKind::Unknown, name, strategies, terms))
+    faults.add(FaultKind::Unknown, name, strategies, terms, place)
 }
 
 fn check_primitive<M: Meaning>(
     primitives: &Primitives<M>,
     name: &Name,
     terms: usize,
-) -> Result<(), CheckFault>
-    ensures { Tells result (first_in_primitive primitives.now name.now terms) }
+    place: Place,
+    faults: &mut FaultList,
+) -> Result<(), NoMemory>
+    ensures { OnOk result (faults.new ≡ with_faults faults.old
+        (fault_if (not (is_primitive primitives.now name.now terms)) FaultKind.Primitive name.now terms 0)) }
 {
     match primitives.find(name.bytes(), terms) {
         Some(_) => Ok(()),
-        None => Err(fault(FaultKind::Primitive, name, terms, 0)),
+        None => faults.add(FaultKind::Primitive, name, terms, 0, place),
     }
 }

@@ -1,7 +1,7 @@
 //! The definitions and declarations of all modules together.
 #![tactic(auto)]
 
-ghost use Rattle.std.specs.Prelude.{◌≡◌, [], IfOk, OnOk};
+ghost use Rattle.std.specs.Prelude.{◌≡◌, ◌++◌, [], IfOk, OnOk};
 ghost use Rattle.strategy_syntax.specs.Lists.{with_new};
 ghost use Rattle.strategy_check.specs.Tables.{definition_number, is_declared, same_key, same_constructor, keys_of, table_of};
 ghost use Rattle.strategy_check.specs.inside.Changing.{with_module, with_all};
@@ -49,6 +49,21 @@ impl Table {
     {
         let mut table = Table::empty(alloc);
         table.add_all(modules)?;
+        Ok(table)
+    }
+
+    /// The table of the modules in three parts, which come one after another.
+    pub fn of_parts(
+        alloc: Global,
+        first: &[NamedModule],
+        second: &[NamedModule],
+        third: &[NamedModule],
+    ) -> Result<Table, NoMemory>
+        ensures { IfOk result (λ table. table ≡ table_of (first.now ++ (second.now ++ third.now))) }
+    {
+        let mut table = Table::new(alloc, first)?;
+        table.add_all(second)?;
+        table.add_all(third)?;
         Ok(table)
     }
 

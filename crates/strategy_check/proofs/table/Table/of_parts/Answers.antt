@@ -1,7 +1,7 @@
 use Rattle.std.proofs.Common.{ap, ◌∙◌}
 use Rattle.strategy_check.specs.inside.Changing.{with_all}
 use Rattle.strategy_check.proofs.CheckedLemmas.{joined-table}
-use Rattle.strategy_check.proofs.checked.joined_table.Goals as goal
+use Rattle.strategy_check.proofs.table.Table.of_parts.Goals as goal
 
 pub returns : goal.returns
 returns c =
