@@ -1,5 +1,4 @@
 pub mod FaultLemmas
-pub mod FirstLemmas
 pub mod GroupLemmas
 pub mod ResolvedPatternLemmas
 pub mod BodyLemmas

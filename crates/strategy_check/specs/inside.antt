@@ -2,7 +2,6 @@ pub mod Changing
 pub mod CheckedCodes
 pub mod Closing
 pub mod FaultLists
-pub mod FirstFault
 pub mod Grouping
 pub mod Mentioned
 pub mod Mentions

@@ -10,7 +10,7 @@ ghost use Rattle.strategy_check.specs.inside.Staying.{StaysFaultless, own_count}
 
 use crate::CheckFault;
 use crate::changes::{defines_again, has_clash, misses_constructor, misses_definition};
-use crate::modules::find_faults;
+use crate::modules::refuse_modules;
 use crate::named::NamedModule;
 use crate::program::{Program, check};
 use crate::table::Table;
@@ -222,7 +222,11 @@ fn stays_faultless<M: Meaning>(
     if is_noticed(before, after, last, old, new) {
         return Ok(false);
     }
-    Ok(find_faults(alloc, after, primitives, new, 1)?.is_empty())
+    match refuse_modules(alloc, after, primitives, new) {
+        Ok(()) => Ok(true),
+        Err(CheckFault::Memory) => Err(NoMemory),
+        Err(_) => Ok(false),
+    }
 }
 
 // Whether modules that stay mention a definition or a constructor that comes or goes.

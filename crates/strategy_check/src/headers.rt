@@ -1,12 +1,12 @@
 //! The faults in a list of names and in the header of a definition.
-#![tactic(auto)]
+#![tactic(auto, using(crate::proofs::FaultLemmas::added))]
 
 ghost use Rattle.std.specs.Prelude.{◌≡◌, ◌++◌, [], OnOk};
 ghost use Rattle.indexmap.specs.IndexSet.{insert_key};
 ghost use Rattle.term_core.specs.Tree.{same_name};
 ghost use Rattle.strategy_syntax.specs.Lists.{is_among, with_new};
 ghost use Rattle.strategy_check.specs.Faults.{fault_if, repeated_names, header_faults};
-ghost use Rattle.strategy_check.specs.inside.FaultLists.{with_faults, repeated_faults};
+ghost use Rattle.strategy_check.specs.inside.FaultLists.{with_faults, repeated_faults, twice_faults, clash_faults};
 
 use crate::FaultKind;
 use crate::binders::Binding;
@@ -105,12 +105,43 @@ pub fn check_header(
         ≡ with_faults faults.old (header_faults table.now earlier.now.keys definition.now)) }
 {
     check_parameters(alloc, definition, faults)?;
+    check_twice(earlier, definition, faults)?;
+    check_clash(table, definition, faults)
+}
+
+// Adds the fault of a definition that an earlier module has, too.
+fn check_twice(
+    earlier: &IndexSet<DefinitionKey>,
+    definition: &Definition,
+    faults: &mut FaultList,
+) -> Result<(), NoMemory>
+    ensures { OnOk result (faults.new
+        ≡ with_faults faults.old (twice_faults earlier.now.keys definition.now)) }
+{
     let strategies = definition.strategy_parameters().len();
     let terms = definition.term_parameters().len();
     let name = definition.name();
-    let place = definition.place().token(0);
-    let is_twice = earlier.contains(&DefinitionKey::new(name, strategies, terms)?);
-    faults.add_if(is_twice, FaultKind::Twice, name, strategies, terms, place)?;
-    let is_clash = terms == 0 && table.declares(name, strategies)?;
-    faults.add_if(is_clash, FaultKind::Clash, name, strategies, 0, place)
+    if earlier.contains(&DefinitionKey::new(name, strategies, terms)?) {
+        let place = definition.place().token(0);
+        return faults.add(FaultKind::Twice, name, strategies, terms, place);
+    }
+    Ok(())
+}
+
+// Adds the fault of a definition whose name is a constructor, too.
+fn check_clash(
+    table: &Table,
+    definition: &Definition,
+    faults: &mut FaultList,
+) -> Result<(), NoMemory>
+    ensures { OnOk result (faults.new
+        ≡ with_faults faults.old (clash_faults table.now definition.now)) }
+{
+    let strategies = definition.strategy_parameters().len();
+    let name = definition.name();
+    if definition.term_parameters().is_empty() && table.declares(name, strategies)? {
+        let place = definition.place().token(0);
+        return faults.add(FaultKind::Clash, name, strategies, 0, place);
+    }
+    Ok(())
 }

@@ -1,7 +1,7 @@
 //! The faults that a walk over modules or a strategy has found.
 #![tactic(auto)]
 
-ghost use Rattle.std.specs.Prelude.{◌≡◌, ◌∷◌, ◌==◌, ◌↔◌, [], IsTrue, IfErr, OnOk};
+ghost use Rattle.std.specs.Prelude.{◌≡◌, ◌∷◌, ◌==◌, [], IfErr, OnOk};
 ghost use Rattle.strategy_check.specs.Faults.{IsTold, fault_if, first};
 ghost use Rattle.strategy_check.specs.inside.FaultLists.{with_faults};
 
@@ -100,13 +100,6 @@ impl FaultList {
         ensures { result.items ≡ self.items }
     {
         self.found
-    }
-
-    /// Whether no fault was found.
-    pub fn is_empty(&self) -> bool
-        ensures { IsTrue result ↔ (self.now.items ≡ []) }
-    {
-        self.found.is_empty()
     }
 
     /// The first fault as a refusal, if one was found.

@@ -10,12 +10,11 @@ use crate::list::FaultList;
 use crate::modules::check_modules;
 use crate::named::NamedModule;
 use crate::program::Program;
-use crate::strategies::check_strategy;
+use crate::strategies::find_in_strategy;
 use crate::table::Table;
 use indexmap::IndexSet;
 use prim_core::{Meaning, Primitives};
 use std::alloc::Global;
-use strategy_names::Binders;
 use strategy_syntax::Strategy;
 use term_core::NoMemory;
 
@@ -87,15 +86,6 @@ pub fn all_strategy_faults<M: Meaning>(
     ensures { IfOk result (λ found. found.items
         ≡ take most (faults_of program.now primitives.now strategy.now)) }
 {
-    let mut names = Binders::new(alloc);
-    let mut faults = FaultList::new(alloc, most);
-    check_strategy(
-        alloc,
-        program.table(),
-        primitives,
-        &mut names,
-        strategy,
-        &mut faults,
-    )?;
+    let faults = find_in_strategy(alloc, program.table(), primitives, strategy, most)?;
     Ok(faults.into_found())
 }

@@ -1,12 +1,13 @@
 //! The faults in modules.
 #![tactic(auto, using(crate::proofs::FaultLemmas::added))]
 
-ghost use Rattle.std.specs.Prelude.{◌≡◌, [], flat_map, IfOk, OnOk};
+ghost use Rattle.std.specs.Prelude.{◌≡◌, [], flat_map, take, IfErr, IfOk, OnOk};
 ghost use Rattle.strategy_syntax.specs.Lists.{with_new};
 ghost use Rattle.strategy_check.specs.Tables.{definitions_of, keys_of, same_key};
-ghost use Rattle.strategy_check.specs.Faults.{definition_faults, faults_from};
+ghost use Rattle.strategy_check.specs.Faults.{IsTold, definition_faults, faults_from, first};
 ghost use Rattle.strategy_check.specs.inside.FaultLists.{with_faults};
 
+use crate::CheckFault;
 use crate::headers::check_header;
 use crate::key::DefinitionKey;
 use crate::list::FaultList;
@@ -100,15 +101,15 @@ fn check_definition<M: Meaning>(
 }
 
 /// The first faults of these modules, `most` at most, in a table that may have more.
-pub fn find_faults<M: Meaning>(
+pub fn find_in_modules<M: Meaning>(
     alloc: Global,
     table: &Table,
     primitives: &Primitives<M>,
     modules: &[NamedModule],
     most: usize,
 ) -> Result<FaultList, NoMemory>
-    ensures { IfOk result (λ found. found ≡ with_faults (record { items = []; room = most })
-        (faults_from table.now primitives.now [] modules.now)) }
+    ensures { IfOk result (λ found. found.items
+        ≡ take most (faults_from table.now primitives.now [] modules.now)) }
 {
     let mut earlier = IndexSet::new(alloc);
     let mut faults = FaultList::new(alloc, most);
@@ -122,4 +123,19 @@ pub fn find_faults<M: Meaning>(
         &mut faults,
     )?;
     Ok(faults)
+}
+
+/// The first fault of these modules as a refusal, if they have one.
+pub fn refuse_modules<M: Meaning>(
+    alloc: Global,
+    table: &Table,
+    primitives: &Primitives<M>,
+    modules: &[NamedModule],
+) -> Result<(), CheckFault>
+    ensures none { OnOk result (faults_from table.now primitives.now [] modules.now ≡ []) }
+    ensures first { IfErr result (λ told. IsTold told
+        (first (faults_from table.now primitives.now [] modules.now))) }
+{
+    let faults = find_in_modules(alloc, table, primitives, modules, 1)?;
+    faults.into_first()
 }

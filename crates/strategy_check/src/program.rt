@@ -13,11 +13,10 @@ use crate::CheckFault;
 use crate::bodies::resolve_strategy;
 use crate::changes::new_numbers;
 use crate::groups::{group_definitions, join_groups};
-use crate::list::FaultList;
-use crate::modules::find_faults;
+use crate::modules::refuse_modules;
 use crate::named::NamedModule;
 use crate::scope::Scope;
-use crate::strategies::check_strategy;
+use crate::strategies::refuse_strategy;
 use crate::table::Table;
 use prim_core::{Meaning, Primitives};
 use std::alloc::Global;
@@ -194,7 +193,7 @@ pub fn check<M: Meaning>(
     ensures in_range { IfOk result (λ checked. BodiesInRange checked primitives.now) }
 {
     let table = Table::new(alloc, modules)?;
-    find_faults(alloc, &table, primitives, modules, 1)?.into_first()?;
+    refuse_modules(alloc, &table, primitives, modules)?;
     let groups = group_definitions(alloc, &table, modules)?;
     let bodies = join_groups(alloc, &table, primitives, groups.as_slice())?;
     Ok(Program { table, bodies })
@@ -216,17 +215,7 @@ pub fn resolve<M: Meaning>(
         (first (faults_of program.now primitives.now strategy.now))) }
     ensures in_range { IfOk result (λ whole. IsInRange program.now primitives.now 0 0 whole) }
 {
-    let mut names = Binders::new(alloc);
-    let mut faults = FaultList::new(alloc, 1);
-    check_strategy(
-        alloc,
-        &program.table,
-        primitives,
-        &mut names,
-        strategy,
-        &mut faults,
-    )?;
-    faults.into_first()?;
+    refuse_strategy(alloc, &program.table, primitives, strategy)?;
     let whole = resolve_checked(alloc, &program.table, primitives, strategy)?;
     Ok(whole)
 }

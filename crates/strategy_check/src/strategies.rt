@@ -1,17 +1,17 @@
 //! The faults in a strategy.
 #![tactic(auto, using(crate::proofs::FaultLemmas::added))]
 
-ghost use Rattle.std.specs.Prelude.{◌≡◌, not, OnOk};
+ghost use Rattle.std.specs.Prelude.{◌≡◌, [], not, take, IfErr, IfOk, OnOk};
 ghost use Rattle.strategy_syntax.specs.Syntax.{strategies_of};
-ghost use Rattle.strategy_check.specs.Faults.{fault_if, is_primitive, name_faults, strategy_faults, faults_of_strategies};
+ghost use Rattle.strategy_check.specs.Faults.{IsTold, fault_if, first, is_primitive, name_faults, strategy_faults, faults_of_strategies};
 ghost use Rattle.strategy_check.specs.inside.FaultLists.{with_faults};
 
-use crate::FaultKind;
 use crate::binders::Binding;
 use crate::headers::check_names;
 use crate::list::FaultList;
 use crate::patterns::{PatternUse, check_pattern, check_patterns};
 use crate::table::Table;
+use crate::{CheckFault, FaultKind};
 use prim_core::{Meaning, Primitives};
 use std::alloc::Global;
 use strategy_names::Binders;
@@ -157,4 +157,36 @@ fn check_primitive<M: Meaning>(
         Some(_) => Ok(()),
         None => faults.add(FaultKind::Primitive, name, terms, 0, place),
     }
+}
+
+/// The first faults of a strategy with no strategy names in scope, `most` at most.
+pub fn find_in_strategy<M: Meaning>(
+    alloc: Global,
+    table: &Table,
+    primitives: &Primitives<M>,
+    strategy: &Strategy,
+    most: usize,
+) -> Result<FaultList, NoMemory>
+    ensures { IfOk result (λ found. found.items
+        ≡ take most (strategy_faults table.now primitives.now [] strategy.now)) }
+{
+    let mut names = Binders::new(alloc);
+    let mut faults = FaultList::new(alloc, most);
+    check_strategy(alloc, table, primitives, &mut names, strategy, &mut faults)?;
+    Ok(faults)
+}
+
+/// The first fault of a strategy as a refusal, if it has one.
+pub fn refuse_strategy<M: Meaning>(
+    alloc: Global,
+    table: &Table,
+    primitives: &Primitives<M>,
+    strategy: &Strategy,
+) -> Result<(), CheckFault>
+    ensures none { OnOk result (strategy_faults table.now primitives.now [] strategy.now ≡ []) }
+    ensures first { IfErr result (λ told. IsTold told
+        (first (strategy_faults table.now primitives.now [] strategy.now))) }
+{
+    let faults = find_in_strategy(alloc, table, primitives, strategy, 1)?;
+    faults.into_first()
 }

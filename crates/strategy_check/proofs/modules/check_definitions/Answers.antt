@@ -1,20 +1,21 @@
-use Rattle.std.proofs.Common.{refl}
-use Rattle.strategy_check.specs.inside.FirstFault.{first_in_definition, first_in_definitions}
-use Rattle.strategy_check.proofs.FaultLemmas.{passed, told_on, told_at, all_passed}
+use Rattle.std.proofs.Common.{refl, ap, ◌∙◌}
+use Rattle.std.specs.Prelude.{flat_map}
+use Rattle.strategy_check.specs.Faults.{definition_faults}
+use Rattle.strategy_check.specs.inside.FaultLists.{with_faults}
+use Rattle.strategy_check.proofs.FaultLemmas.{item_added, all_added}
 use Rattle.strategy_check.proofs.modules.check_definitions.Goals as goal
 
-pub loop-definition-preserved : goal.loop-definition-preserved
-loop-definition-preserved g c =
-    passed (first_in_definition c.args.table.now c.args.primitives.now c.args.earlier.now.keys) (first_in_definitions c.args.table.now c.args.primitives.now c.args.earlier.now.keys) refl (λ d ds. refl)
-    c.args.definitions.now c.loop-definition.definition-index c.definition-item.result c.loop-definition-test.true c.definition-item.is c.in_ok-check_definition.ensures c.loop-definition.invariant
-
-pub returns-in_err-check_definition : goal.returns-in_err-check_definition
-returns-in_err-check_definition g c =
-    told_on c.from_residual.result c.in_err-check_definition.field-0.0 (first_in_definitions c.args.table.now c.args.primitives.now c.args.earlier.now.keys c.args.definitions.now) c.from_residual.ensures
-    (told_at (first_in_definition c.args.table.now c.args.primitives.now c.args.earlier.now.keys) (first_in_definitions c.args.table.now c.args.primitives.now c.args.earlier.now.keys) refl (λ d ds. refl)
-    c.args.definitions.now c.loop-definition.definition-index c.in_err-check_definition.field-0.0 c.definition-item.result c.loop-definition-test.true c.definition-item.is c.loop-definition.invariant c.in_err-check_definition.ensures)
+pub loop-index-preserved : goal.loop-index-preserved
+loop-index-preserved g c =
+    let one = definition_faults c.args.table.now c.args.primitives.now c.args.earlier.now.keys in
+    let ds = c.args.definitions.now in
+    let d = c.index-definitions-index.result in
+    item_added (flat_map one) one (λ d ds. refl) ds c.loop-index.index c.loop-index.faults (with_faults c.args.faults.now (flat_map one ds)) d c.check_definition.new.faults
+    c.loop-index-test.true c.index-definitions-index.is c.loop-index.invariant
+    (c.in_ok-check_definition.ensures ∙ ap (λ m. with_faults m (one d)) c.enter.ensures)
 
 pub returns : goal.returns
 returns g c =
-    all_passed (first_in_definition c.args.table.now c.args.primitives.now c.args.earlier.now.keys) (first_in_definitions c.args.table.now c.args.primitives.now c.args.earlier.now.keys) refl (λ d ds. refl)
-    c.args.definitions.now c.loop-definition.definition-index c.loop-definition-test.false c.loop-definition.invariant
+    let one = definition_faults c.args.table.now c.args.primitives.now c.args.earlier.now.keys in
+    all_added (flat_map one) refl c.args.definitions.now c.loop-index.index c.loop-index.faults (with_faults c.args.faults.now (flat_map one c.args.definitions.now))
+    c.loop-index-test.false c.loop-index.invariant

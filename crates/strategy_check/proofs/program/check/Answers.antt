@@ -1,27 +1,24 @@
 use Rattle.std.proofs.Common.{[], map, ap, sym, ◌∙◌, subst}
+use Rattle.std.specs.Result.{IfErr}
 use Rattle.strategy_check.specs.Tables.{table_of, definitions_of}
-use Rattle.strategy_check.specs.Faults.{faults, first, IsTold}
-use Rattle.strategy_check.specs.inside.FirstFault.{first_in_modules}
+use Rattle.strategy_check.specs.Faults.{faults, faults_from, first, IsTold}
 use Rattle.strategy_check.specs.Programs.{joined_definition, groups}
 use Rattle.strategy_check.specs.Ranges.{BodiesInRange}
 use Rattle.strategy_check.proofs.FaultLemmas.{told_err}
-use Rattle.strategy_check.proofs.FirstLemmas.{first-modules, none_first}
 use Rattle.strategy_check.proofs.ProgramLemmas.{bodies_in_range}
 use Rattle.strategy_check.proofs.program.check.Goals as goal
 
 pub returns-clause-faultless : goal.returns-clause-faultless
 returns-clause-faultless g c =
-    let ms = c.args.modules.now in
-    let P = c.args.primitives.now in
-    none_first (faults ms P) (first-modules (table_of ms) P [] ms ∙ ap (λ T. first_in_modules T P [] ms) (sym c.in_ok-table.ensures) ∙ c.in_ok-check_modules.ensures)
+    ap (λ T. faults_from T c.args.primitives.now [] c.args.modules.now) (sym c.in_ok-table.ensures) ∙ c.in_ok-refuse_modules.ensures.none
 
-pub returns-in_err-check_modules-clause-fault : goal.returns-in_err-check_modules-clause-fault
-returns-in_err-check_modules-clause-fault g c =
+pub returns-in_err-refuse_modules-clause-fault : goal.returns-in_err-refuse_modules-clause-fault
+returns-in_err-refuse_modules-clause-fault g c =
     let ms = c.args.modules.now in
     let P = c.args.primitives.now in
-    let e = c.in_err-check_modules.field-0.0 in
-    told_err c.from_residual-in_err-check_modules.result e (first (faults ms P)) c.from_residual-in_err-check_modules.ensures
-    (subst (IsTold e) (ap (λ T. first_in_modules T P [] ms) c.in_ok-table.ensures ∙ sym (first-modules (table_of ms) P [] ms)) c.in_err-check_modules.ensures)
+    let e = c.in_err-refuse_modules.field-0.0 in
+    told_err c.from_residual-in_err-refuse_modules.result e (first (faults ms P)) c.from_residual-in_err-refuse_modules.ensures
+    (subst (IsTold e) (ap (λ T. first (faults_from T P [] ms)) c.in_ok-table.ensures) c.in_err-refuse_modules.ensures.first)
 
 pub returns-clause-in_range : goal.returns-clause-in_range
 returns-clause-in_range g c =

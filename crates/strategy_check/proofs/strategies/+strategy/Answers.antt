@@ -1,26 +1,29 @@
-use Rattle.std.proofs.Common.{◌≡◌, None, refl, ◌∙◌, subst}
+use Rattle.std.proofs.Common.{◌≡◌, refl, ap, ◌∙◌}
 use Rattle.strategy_syntax.specs.Syntax.{strategies_of}
-use Rattle.strategy_check.specs.Faults.{IsTold}
-use Rattle.strategy_check.specs.inside.FirstFault.{first_in_strategy, first_in_strategies}
-use Rattle.strategy_check.proofs.FaultLemmas.{passed, told_on, told_at, all_passed}
+use Rattle.strategy_check.specs.Faults.{strategy_faults, faults_of_strategies}
+use Rattle.strategy_check.specs.inside.FaultLists.{with_faults}
+use Rattle.strategy_check.proofs.FaultLemmas.{item_added, all_added}
 use Rattle.strategy_check.proofs.strategies.+strategy.Goals as goal
 
 pub check_strategies-loop-strategy-preserved : goal.check_strategies-loop-strategy-preserved
-check_strategies-loop-strategy-preserved g t c = record {
-  same = passed (first_in_strategy c.args.table.now c.args.primitives.now c.args.names.now) (λ ss. first_in_strategies c.args.table.now c.args.primitives.now c.args.names.now (strategies_of ss)) refl (λ s ss. refl)
-      c.args.strategies.now c.loop-strategy.strategy-index c.strategy-item.result c.loop-strategy-test.true c.strategy-item.is
-      (subst (λ bs. first_in_strategy c.args.table.now c.args.primitives.now bs c.strategy-item.result ≡ None) c.loop-strategy.invariant.kept c.in_ok-check_strategy.ensures.told) c.loop-strategy.invariant.same;
-  kept = c.in_ok-check_strategy.ensures.names ∙ c.loop-strategy.invariant.kept;
-}
+check_strategies-loop-strategy-preserved g t c =
+    let T = c.args.table.now in
+    let P = c.args.primitives.now in
+    let names = c.args.names.now in
+    let added : c.check_strategy.new.faults ≡ with_faults c.loop-strategy.faults (strategy_faults T P names c.strategy-item.result) =
+    c.in_ok-check_strategy.ensures.faults ∙ ap (λ bs. with_faults c.loop-strategy.faults (strategy_faults T P bs c.strategy-item.result)) c.loop-strategy.invariant.names in
+    record {
+      faults = item_added (λ ss. faults_of_strategies T P names (strategies_of ss)) (strategy_faults T P names) (λ s ss. refl)
+          c.args.strategies.now c.loop-strategy.strategy-index c.loop-strategy.faults (with_faults c.args.faults.now (faults_of_strategies T P names (strategies_of c.args.strategies.now)))
+          c.strategy-item.result c.check_strategy.new.faults c.loop-strategy-test.true c.strategy-item.is c.loop-strategy.invariant.faults added;
+      names = c.in_ok-check_strategy.ensures.names ∙ c.loop-strategy.invariant.names;
+    }
 
-pub check_strategies-returns-in_err-check_strategy-clause-told : goal.check_strategies-returns-in_err-check_strategy-clause-told
-check_strategies-returns-in_err-check_strategy-clause-told g t c =
-    told_on c.from_residual.result c.in_err-check_strategy.field-0.0 (first_in_strategies c.args.table.now c.args.primitives.now c.args.names.now (strategies_of c.args.strategies.now)) c.from_residual.ensures
-    (told_at (first_in_strategy c.args.table.now c.args.primitives.now c.args.names.now) (λ ss. first_in_strategies c.args.table.now c.args.primitives.now c.args.names.now (strategies_of ss)) refl (λ s ss. refl)
-    c.args.strategies.now c.loop-strategy.strategy-index c.in_err-check_strategy.field-0.0 c.strategy-item.result c.loop-strategy-test.true c.strategy-item.is c.loop-strategy.invariant.same
-    (subst (λ bs. IsTold c.in_err-check_strategy.field-0.0 (first_in_strategy c.args.table.now c.args.primitives.now bs c.strategy-item.result)) c.loop-strategy.invariant.kept c.in_err-check_strategy.ensures.told))
-
-pub check_strategies-returns-clause-told : goal.check_strategies-returns-clause-told
-check_strategies-returns-clause-told g t c =
-    all_passed (first_in_strategy c.args.table.now c.args.primitives.now c.args.names.now) (λ ss. first_in_strategies c.args.table.now c.args.primitives.now c.args.names.now (strategies_of ss)) refl (λ s ss. refl)
-    c.args.strategies.now c.loop-strategy.strategy-index c.loop-strategy-test.false c.loop-strategy.invariant.same
+pub check_strategies-returns-clause-faults : goal.check_strategies-returns-clause-faults
+check_strategies-returns-clause-faults g t c =
+    let T = c.args.table.now in
+    let P = c.args.primitives.now in
+    let names = c.args.names.now in
+    all_added (λ ss. faults_of_strategies T P names (strategies_of ss)) refl
+    c.args.strategies.now c.loop-strategy.strategy-index c.loop-strategy.faults (with_faults c.args.faults.now (faults_of_strategies T P names (strategies_of c.args.strategies.now)))
+    c.loop-strategy-test.false c.loop-strategy.invariant.faults
