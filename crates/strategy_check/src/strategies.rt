@@ -34,20 +34,12 @@ pub fn check_strategy<M: Meaning>(
 {
     match strategy.form() {
         StrategyForm::Id | StrategyForm::Fail => Ok(()),
-        StrategyForm::Match(pattern) => check_pattern(
-            alloc,
-            table,
-            PatternUse::Match,
-            pattern,
-            faults,
-        ),
-        StrategyForm::Build(pattern) => check_pattern(
-            alloc,
-            table,
-            PatternUse::Build,
-            pattern,
-            faults,
-        ),
+        StrategyForm::Match(pattern) => {
+            check_pattern(alloc, table, PatternUse::Match, pattern, faults)
+        }
+        StrategyForm::Build(pattern) => {
+            check_pattern(alloc, table, PatternUse::Build, pattern, faults)
+        }
         StrategyForm::Seq(parts) => {
             check_strategy(alloc, table, primitives, names, &parts.0, faults)?;
             check_strategy(alloc, table, primitives, names, &parts.1, faults)

@@ -5,7 +5,7 @@ use Rattle.strategy_syntax.specs.Lists.{is_among, with_new}
 use Rattle.strategy_check.specs.declared.fault.FaultKind.TheVariants.{Parameter}
 use Rattle.strategy_check.specs.Faults.{fault_if}
 use Rattle.strategy_check.specs.inside.FaultLists.{with_faults, repeated_faults}
-use Rattle.strategy_check.proofs.ListLemmas.{with_new-next, with_new-none, turn, end}
+use Rattle.strategy_check.proofs.ListLemmas.{with_new-next, turn}
 use Rattle.strategy_check.proofs.FaultLemmas.{next_added, all_added, repeated-next}
 use Rattle.strategy_check.proofs.headers.check_distinct.Goals as goal
 

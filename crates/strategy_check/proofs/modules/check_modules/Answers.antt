@@ -5,7 +5,7 @@ use Rattle.strategy_syntax.specs.Modules.{Module}
 use Rattle.strategy_check.specs.Tables.{definitions_of, keys_of, same_key}
 use Rattle.strategy_check.specs.Faults.{definition_faults, faults_from, module_faults}
 use Rattle.strategy_check.specs.inside.FaultLists.{with_faults}
-use Rattle.strategy_check.proofs.ListLemmas.{turn, end, with_new-none}
+use Rattle.strategy_check.proofs.ListLemmas.{turn}
 use Rattle.strategy_check.proofs.FaultLemmas.{next_added, all_added, later_keys}
 use Rattle.strategy_check.proofs.modules.check_modules.Goals as goal
 

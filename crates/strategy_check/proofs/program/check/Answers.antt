@@ -1,6 +1,5 @@
 use Rattle.std.proofs.Common.{[], map, ap, sym, ◌∙◌, subst}
-use Rattle.std.specs.Result.{IfErr}
-use Rattle.strategy_check.specs.Tables.{table_of, definitions_of}
+use Rattle.strategy_check.specs.Tables.{definitions_of}
 use Rattle.strategy_check.specs.Faults.{faults, faults_from, first, IsTold}
 use Rattle.strategy_check.specs.Programs.{joined_definition, groups}
 use Rattle.strategy_check.specs.Ranges.{BodiesInRange}

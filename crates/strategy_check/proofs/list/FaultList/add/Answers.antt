@@ -1,4 +1,3 @@
-use Rattle.std.proofs.Common.{arith, ◌∙◌}
 use Rattle.strategy_check.proofs.FaultLemmas.{with_full, with_one}
 use Rattle.strategy_check.proofs.list.FaultList.add.Goals as goal
 

@@ -1,4 +1,4 @@
-use Rattle.std.proofs.Common.{◌≡◌, List, Ok, Err, OnOk, Result, ap, sym, ◌∙◌}
+use Rattle.std.proofs.Common.{◌≡◌, List, Ok, Err, OnOk, Result, ap, ◌∙◌}
 use Rattle.strategy_check.specs.Tables.{Table}
 use Rattle.strategy_check.specs.Programs.{Program}
 use Rattle.strategy_syntax.specs.declared.resolved.Resolved.{Resolved}
