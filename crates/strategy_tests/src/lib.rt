@@ -15,6 +15,8 @@ mod definitions;
 #[cfg(test)]
 mod hosts;
 #[cfg(test)]
+mod listed;
+#[cfg(test)]
 mod replacing;
 #[cfg(test)]
 mod rows;
