@@ -3,27 +3,12 @@
 //! numbers, the indices of its module and definition, and the number and text of its first token up
 //! to its last one.
 
+use crate::replacing::modules_of;
 use prim_core::{NoPrimitives, Primitives};
 use std::alloc::{AllocError, Global};
 use std::test::Fail;
-use strategy_check::{
-    DefinitionIndex, FoundFault, NamedModule, all_faults, all_strategy_faults, check,
-};
-use strategy_parse::{bytes_of, parse_module, parse_strategy, token_count};
-use term_core::Label;
-
-fn read_module(alloc: Global, text: &str) -> Result<NamedModule, Fail> {
-    let name = Label::read(alloc, b"m")?;
-    let module = parse_module(alloc, text.as_bytes())?;
-    Ok(NamedModule::new(alloc, name, module)?)
-}
-
-fn add_modules(alloc: Global, texts: &str, modules: &mut Vec<NamedModule>) -> Result<(), Fail> {
-    for text in texts.split('%') {
-        modules.push(read_module(alloc, text)?)?;
-    }
-    Ok(())
-}
+use strategy_check::{DefinitionIndex, FoundFault, all_faults, all_strategy_faults, check};
+use strategy_parse::{bytes_of, parse_strategy, token_count};
 
 // The text from the first token of the fault up to its last one, after the number of the first.
 fn add_place(
@@ -109,8 +94,7 @@ fn faults_of_modules(rt: HostRuntime) -> Result<(), Fail> {
     let alloc = rt.alloc();
     let primitives: Primitives<NoPrimitives> = Primitives::new(Vec::new(alloc));
     let row = MODULES.trim();
-    let mut modules = Vec::new(alloc);
-    add_modules(alloc, row.lines().next().unwrap_or(""), &mut modules)?;
+    let modules = modules_of(alloc, row.lines().next().unwrap_or(""))?;
     let first = modules.get(..1).unwrap_or(&[]);
     let rest = modules.get(1..).unwrap_or(&[]);
     let found = all_faults(alloc, first, rest, &[], &primitives, 20)?;

@@ -23,8 +23,8 @@ fn add_modules(alloc: Global, texts: &str, modules: &mut Vec<NamedModule>) -> Re
     Ok(())
 }
 
-// The modules whose texts are separated by `%`.
-fn modules_of(alloc: Global, texts: &str) -> Result<Vec<NamedModule>, Fail> {
+/// The modules whose texts are separated by `%`.
+pub fn modules_of(alloc: Global, texts: &str) -> Result<Vec<NamedModule>, Fail> {
     let mut modules = Vec::new(alloc);
     match add_modules(alloc, texts, &mut modules) {
         Ok(()) => Ok(modules),
