@@ -1,6 +1,6 @@
 //! Sessions: contents that change in steps, which can be undone and redone.
 
-ghost use Rattle.std.specs.Prelude.{◌≡◌, ◌⊎◌, ◌≤◌, ◌++◌, vec_capacity, OnOk, OnErr, IfOk, IfErr, Err, length, option_copied};
+ghost use Rattle.std.specs.Prelude.{◌≡◌, ◌⊎◌, ◌≤◌, ◌++◌, vec_capacity, OnOk, OnErr, IfOk, IfErr, IfSome, Err, length, option_copied};
 ghost use Rattle.std.specs.FinMap as finmap;
 ghost use Rattle.term_core.specs.declared.TheConstants.{MAX_ROOM};
 ghost use Rattle.session_history.specs.History.{empty_history, empty_within, HasSoundContents};
@@ -9,11 +9,12 @@ ghost use Rattle.session_core.specs.Previewing.{AnswersPreview};
 ghost use Rattle.session_history.specs.Differences.{base_of, TellsChanges};
 ghost use Rattle.session_history.specs.Dump.{dumped, AreNamedTerms};
 ghost use Rattle.session_history.specs.Unfolded.{unfolded};
+ghost use Rattle.session_modules.specs.Kept.{Belong};
 
 use crate::applying::apply_strategy;
 use crate::preview::{Preview, preview_strategy};
 use prim_core::{Meaning, Primitives};
-use session_history::{Limits, ModuleCache, Refusal, Timeline};
+use session_history::{CheckedTexts, Limits, ModuleCache, Refusal, Timeline};
 use std::alloc::Global;
 use std::marker::Model;
 use strategy_check::Program;
@@ -101,6 +102,14 @@ impl<M: Meaning> Session<M> {
     /// preview that ran, these are the current modules.
     pub fn kept_program(&self) -> Option<&Program> {
         self.cache.last_program()
+    }
+
+    /// The modules that were checked last, each with the text that it was read from, if they are
+    /// kept. After an apply or a preview that ran, these are the current modules.
+    pub fn kept_modules(&self) -> Option<&CheckedTexts>
+        ensures { IfSome result (λ kept. Belong self.now.primitives kept.now) }
+    {
+        self.cache.last_modules()
     }
 
     /// The tree of this name, or `None` if there is none.
