@@ -1,21 +1,23 @@
-//! Definitions as their texts have them, found by the numbers of a run.
+//! What a command ran, and where its strategies stand: in the command, or in the bodies of
+//! definitions.
 
-use crate::finding::{Node, are_same};
+use crate::finding::{Node, Part, is_around};
 use crate::observing::Called;
-use hint_text::{DEEPEST, Text, arity_of, place_of, token_of};
+use hint_text::{DEEPEST, place_of, token_of};
+use session_history::CheckedTexts;
 use std::alloc::Global;
-use strategy_check::Program;
-use strategy_parse::definition_tokens;
-use strategy_syntax::{Definition, Resolved, ResolvedForm, ResolvedStrategy, Strategy};
-use term_core::{NoMemory, Term};
+use strategy_parse::{definition_stands_at, stands_at, token_count};
+use strategy_syntax::{
+    Definition, Place, Resolved, ResolvedForm, ResolvedStrategy, Strategy, TokenRange,
+};
+use term_core::Term;
 
-/// What a command ran: its strategy with names and resolved, the program, and the bodies of all
-/// definitions, module after module in the order of their names.
+/// What a command ran: its strategy with names and resolved, its text, and the modules.
 #[derive(Clone, Copy)]
 pub struct About<'a> {
     pub alloc: Global,
-    pub program: &'a Program,
-    pub bodies: &'a [Body<'a>],
+    pub modules: &'a CheckedTexts,
+    pub text: &'a [u8],
     pub named: &'a Strategy,
     pub resolved: &'a Resolved,
     /// The term that the strategy was applied to, and its path.
@@ -23,14 +25,15 @@ pub struct About<'a> {
     pub path: &'a [usize],
 }
 
-/// A body of a definition, with the number of its first token in the text of its module, and the
-/// number of the definition.
+/// A body of the definition of this number.
 #[derive(Clone, Copy)]
 pub struct Body<'a> {
-    pub module: &'a Text<'a>,
-    pub first: usize,
-    pub definition: &'a Definition,
     pub number: usize,
+    pub resolved: &'a ResolvedStrategy,
+    pub definition: &'a Definition,
+    /// The name of its module, and the text of that.
+    pub module: &'a [u8],
+    pub text: &'a [u8],
 }
 
 /// Where a strategy is.
@@ -39,47 +42,47 @@ pub struct StrategyPlace<'a> {
     /// The body that has it, or the first of those that it chooses among; none if the command has
     /// it.
     pub body: Option<Body<'a>>,
-    /// The strategy; none if it is the choice among these bodies.
+    /// The strategy; none if it is that choice, or isn't found.
     pub node: Option<Node<'a>>,
+    pub is_choice: bool,
     /// The number of calls around it, from the outermost on.
     pub calls: usize,
 }
 
-/// The bodies of all definitions: these are numbered in the order of the texts, those of one name
-/// and one number of arguments once. No two modules have such definitions in common.
-pub fn bodies_of<'a>(alloc: Global, modules: &'a [Text<'a>]) -> Result<Vec<Body<'a>>, NoMemory> {
-    let mut bodies: Vec<Body<'a>> = Vec::new(alloc);
-    let mut count = 0usize;
-    for module in modules {
-        let before = bodies.len();
-        let Ok(places) = definition_tokens(alloc, module.text) else {
-            return Err(NoMemory);
-        };
-        for (definition, place) in module.module.definitions().iter().zip(&places) {
-            let others = bodies.get(before..).unwrap_or(&[]);
-            let number = number_among(others, definition).unwrap_or(count);
-            count = count.max(number.saturating_add(1));
-            bodies.push(Body {
-                module,
-                first: place.first,
-                definition,
-                number,
-            })?;
-        }
+impl<'a> Body<'a> {
+    /// The body, resolved and with its names.
+    pub fn whole(&self) -> Part<'a> {
+        Part::new(self.resolved, self.definition.body())
     }
-    Ok(bodies)
+
+    /// Whether the library has it.
+    pub fn is_of_library(&self) -> bool {
+        self.module == b"library".as_slice()
+    }
+
+    /// The line of its module's text on which it begins.
+    pub fn line(&self) -> u64 {
+        let first = match tokens_at(self.text, self.definition.place()) {
+            Some(tokens) => tokens.first,
+            None => 0,
+        };
+        let (_name, start) = token_of(self.text, first);
+        place_of(self.text, 1, start).line
+    }
+
+    /// Whether both are the same.
+    pub fn is(&self, other: &Body<'_>) -> bool {
+        self.number == other.number && self.resolved.place() == other.resolved.place()
+    }
 }
 
-// The number of the definition that has bodies among these and this one.
-fn number_among(bodies: &[Body<'_>], definition: &Definition) -> Option<usize> {
-    for body in bodies {
-        if body.definition.name().equals(definition.name())
-            && arity_of(body.definition) == arity_of(definition)
-        {
-            return Some(body.number);
-        }
+/// The body that a choice among those of a definition begins with, and the choice among the others;
+/// any other strategy stands alone.
+pub fn split_bodies(whole: &ResolvedStrategy) -> (&ResolvedStrategy, Option<&ResolvedStrategy>) {
+    match whole.form() {
+        ResolvedForm::Guard(parts) if whole.place().is_nowhere() => (&parts.0, Some(&parts.2)),
+        _ => (whole, None),
     }
-    None
 }
 
 /// Whether one of these calls is of the definition.
@@ -87,99 +90,133 @@ pub fn has_call(calls: &[Called<'_>], definition: usize) -> bool {
     calls.iter().any(|call| call.definition == definition)
 }
 
-impl Body<'_> {
-    /// Whether the library has it.
-    pub fn is_of_library(&self) -> bool {
-        self.module.name == b"library".as_slice()
-    }
-
-    /// The line of its module's text on which it begins.
-    pub fn line(&self) -> u64 {
-        let (_name, start) = token_of(self.module.text, self.first);
-        place_of(self.module.text, 1, start).line
-    }
-}
-
 impl<'a> About<'a> {
     /// Where a strategy is that was begun within these calls, the outermost first. It may have been
-    /// an argument of one of them, and so belong to one further out, or to the command.
+    /// an argument of one of them: then one further out has it, or the command.
     pub fn find(
         &self,
         calls: &[Called<'_>],
         wanted: &ResolvedStrategy,
     ) -> Option<StrategyPlace<'a>> {
-        for outer in (0..calls.len()).rev() {
-            let inner = calls.get(outer..).unwrap_or(&[]);
-            if let Some((call, others)) = inner.split_first()
-                && !has_call(others, call.definition)
-                && let Some(mut place) = self.find_in(call.definition, wanted)
-            {
-                place.calls = outer.saturating_add(1);
-                return Some(place);
-            }
+        let (first, others) = split_bodies(wanted);
+        if others.is_none() && wanted.text() == 0 {
+            let whole = Part::new(&self.resolved.strategy, self.named);
+            return Some(StrategyPlace {
+                body: None,
+                node: Node::new(whole, true).find(wanted, DEEPEST),
+                is_choice: false,
+                calls: 0,
+            });
         }
-        let whole = Node::new(&self.resolved.strategy, self.named, true);
-        let node = whole.find(wanted, DEEPEST)?;
+        let (body, calls) = self.body_around(calls, first)?;
+        let is_choice = others.is_some();
+        let mut node = None;
+        if !is_choice {
+            node = Node::new(body.whole(), true).find(wanted, DEEPEST);
+        }
         Some(StrategyPlace {
-            body: None,
-            node: Some(node),
-            calls: 0,
+            body: Some(body),
+            node,
+            is_choice,
+            calls,
         })
     }
 
-    // Where it is in the bodies of a definition. The last body follows the choices among the
-    // others.
-    fn find_in(&self, definition: usize, wanted: &ResolvedStrategy) -> Option<StrategyPlace<'a>> {
-        let mut rest = &self.program.definitions().get(definition)?.strategy;
-        let mut number = 0usize;
-        for body in self.bodies {
-            if body.number == definition {
-                number = number.saturating_add(1);
-                let mut part = rest;
-                let mut place = StrategyPlace {
-                    body: Some(*body),
-                    node: None,
-                    calls: 0,
-                };
-                if self.body(definition, number).is_some()
-                    && let ResolvedForm::Guard(parts) = rest.form()
-                {
-                    if are_same(rest, wanted) {
-                        return Some(place);
-                    }
-                    part = &parts.0;
-                    rest = &parts.2;
-                }
-                let whole = Node::new(part, body.definition.body(), true);
-                place.node = whole.find(wanted, DEEPEST);
-                if place.node.is_some() {
-                    return Some(place);
-                }
+    // The body that has the strategy, of the innermost call that has one, and the number of calls
+    // up to that. Calls that others took the place of aren't known any more.
+    fn body_around(
+        &self,
+        calls: &[Called<'_>],
+        part: &ResolvedStrategy,
+    ) -> Option<(Body<'a>, usize)> {
+        for (outer, call) in calls.iter().enumerate().rev() {
+            if let Some(body) = self.body_of(call.definition, part) {
+                return Some((body, outer.saturating_add(1)));
+            }
+        }
+        for number in 0..self.modules.program().definitions().len() {
+            if let Some(body) = self.body_of(number, part) {
+                return Some((body, 0));
             }
         }
         None
     }
 
-    /// The body of a definition that has this strategy; its only one if none has it.
-    pub fn body_with(&self, definition: usize, wanted: &ResolvedStrategy) -> Option<Body<'a>> {
-        match (self.find_in(definition, wanted), self.body(definition, 1)) {
-            (Some(place), _) => place.body,
-            (None, None) => self.body(definition, 0),
-            (None, Some(_)) => None,
+    // The body of the definition that has the strategy.
+    fn body_of(&self, number: usize, part: &ResolvedStrategy) -> Option<Body<'a>> {
+        let mut rest = &self.modules.program().definitions().get(number)?.strategy;
+        for _ in 0..DEEPEST {
+            let (body, others) = split_bodies(rest);
+            if is_around(body, part) {
+                return self.named_body(number, body);
+            }
+            rest = others?;
         }
+        None
     }
 
     /// The body after so many others of a definition.
-    pub fn body(&self, definition: usize, before: usize) -> Option<Body<'a>> {
-        let mut left = before;
-        for body in self.bodies {
-            if body.number == definition {
-                if left == 0 {
-                    return Some(*body);
-                }
-                left = left.saturating_sub(1);
-            }
+    pub fn body(&self, number: usize, before: usize) -> Option<Body<'a>> {
+        let mut rest = &self.modules.program().definitions().get(number)?.strategy;
+        for _ in 0..before {
+            rest = split_bodies(rest).1?;
         }
-        None
+        self.named_body(number, split_bodies(rest).0)
     }
+
+    // The body as its module has it.
+    fn named_body(&self, number: usize, resolved: &'a ResolvedStrategy) -> Option<Body<'a>> {
+        let index = self.modules.index_of(resolved.text())?;
+        let named = self.modules.modules().get(index)?;
+        let module = named.module();
+        let definition = module.definition_at(resolved.place())?;
+        Some(Body {
+            number,
+            resolved,
+            definition: module.definitions().get(definition)?,
+            module: named.name().bytes(),
+            text: self.modules.text(index)?,
+        })
+    }
+
+    /// The body of a definition that has this strategy; its only one if none has it.
+    pub fn body_with(&self, number: usize, wanted: &ResolvedStrategy) -> Option<Body<'a>> {
+        let found = self.body_of(number, split_bodies(wanted).0);
+        match self.body(number, 1) {
+            Some(_) => found,
+            None => found.or(self.body(number, 0)),
+        }
+    }
+
+    /// Whether the tokens at its place give the strategy of the node, or, if it has no tokens of
+    /// its own, those around it what it is part of: the definition, or the strategy of the command.
+    pub fn is_shown(&self, body: Option<Body<'a>>, node: Node<'a>) -> bool {
+        let text = match body {
+            Some(body) => body.text,
+            None => self.text,
+        };
+        if stands(self.alloc, text, node.part.named) {
+            return true;
+        }
+        let Some(Body { definition, .. }) = body else {
+            return stands(self.alloc, text, self.named);
+        };
+        let Some(TokenRange { first, end }) = tokens_at(text, definition.place()) else {
+            return false;
+        };
+        let found = definition_stands_at(self.alloc, text, first, end, definition);
+        matches!(found, Ok(true))
+    }
+}
+
+// Whether the tokens of the text at the place of the strategy give it.
+fn stands(alloc: Global, text: &[u8], strategy: &Strategy) -> bool {
+    let Some(TokenRange { first, end }) = tokens_at(text, strategy.place()) else {
+        return false;
+    };
+    matches!(stands_at(alloc, text, first, end, strategy), Ok(true))
+}
+
+fn tokens_at(text: &[u8], place: Place) -> Option<TokenRange> {
+    place.tokens(token_count(text) as usize)
 }

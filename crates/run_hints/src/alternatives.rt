@@ -1,12 +1,14 @@
 //! The alternatives of a choice that failed, and why each did.
 
 use crate::about::{About, Body, StrategyPlace};
-use crate::matching::{Miss, find_miss, matched, may_match};
+use crate::finding::Part;
+use crate::matching::{Compared, Miss, are_alike, compare, matched, may_match, part_after};
 use crate::observing::Called;
 use crate::telling::{Teller, kind_of};
-use hint_text::{DEEPEST, Fill, arity_of, say};
-use strategy_syntax::{PatternForm, Strategy, StrategyForm};
-use term_core::{Kind, Name, NoMemory, Term};
+use hint_text::{DEEPEST, Fill, say};
+use strategy_syntax::{Pattern, PatternForm, ResolvedForm as Form, StrategyForm as Named};
+use term_core::{Kind, NoMemory, Term};
+use term_values::Value;
 
 // The most alternatives for other terms that are listed.
 const LISTED: usize = 8;
@@ -14,16 +16,23 @@ const LISTED: usize = 8;
 /// An alternative of a choice: a strategy, or a body of a definition.
 #[derive(Clone, Copy)]
 pub enum Alternative<'a> {
-    Strategy(&'a Strategy),
+    Strategy(Part<'a>),
     Body(Body<'a>),
 }
 
-impl Alternative<'_> {
+impl<'a> Alternative<'a> {
     // The number of the definition that has this body.
     fn number(self) -> Option<usize> {
         match self {
             Alternative::Strategy(_) => None,
             Alternative::Body(body) => Some(body.number),
+        }
+    }
+
+    fn part(self) -> Part<'a> {
+        match self {
+            Alternative::Strategy(part) => part,
+            Alternative::Body(body) => body.whole(),
         }
     }
 }
@@ -65,8 +74,8 @@ fn add_around<'a>(
     place: StrategyPlace<'a>,
 ) -> Result<(), NoMemory> {
     if let Some(node) = place.node {
-        let is_choice = matches!(node.named.form(), StrategyForm::Guard(_));
-        add_choice(found, node.choice.unwrap_or(node.named), is_choice)?;
+        let is_choice = matches!(node.part.resolved.form(), Form::Guard(_));
+        add_choice(found, node.choice.unwrap_or(node.part), is_choice)?;
         if !node.is_whole {
             return Ok(());
         }
@@ -74,10 +83,14 @@ fn add_around<'a>(
     let Some(own) = place.body else {
         return Ok(());
     };
-    for body in about.bodies {
-        if body.number == own.number && (place.node.is_none() || body.first < own.first) {
-            found.push(Alternative::Body(*body))?;
+    for before in 0..DEEPEST {
+        let Some(body) = about.body(own.number, before) else {
+            break;
+        };
+        if !place.is_choice && body.is(&own) {
+            break;
         }
+        found.push(Alternative::Body(body))?;
     }
     Ok(())
 }
@@ -85,75 +98,81 @@ fn add_around<'a>(
 // Adds the alternatives of a choice, but for the last unless that is wanted.
 fn add_choice<'a>(
     found: &mut Vec<Alternative<'a>>,
-    start: &'a Strategy,
+    start: Part<'a>,
     with_last: bool,
 ) -> Result<(), NoMemory> {
-    let mut strategy = start;
+    let mut part = start;
     for _ in 0..DEEPEST {
-        let StrategyForm::Guard(parts) = strategy.form() else {
+        let (Form::Guard(parts), Named::Guard(names)) = (part.resolved.form(), part.named.form())
+        else {
             break;
         };
-        found.push(Alternative::Strategy(&parts.0))?;
-        strategy = &parts.2;
+        found.push(Alternative::Strategy(Part::new(&parts.0, &names.0)))?;
+        part = Part::new(&parts.2, &names.2);
     }
     if with_last {
-        found.push(Alternative::Strategy(strategy))?;
+        found.push(Alternative::Strategy(part))?;
     }
     Ok(())
 }
 
-// The form that an alternative begins with, whatever the term; of a definition with several bodies
-// that of one whose left side may match it, or else of the first.
-fn first_form<'a>(about: About<'a>, alternative: Alternative<'a>, term: &Term) -> &'a Strategy {
-    let mut strategy = match alternative {
-        Alternative::Strategy(strategy) => strategy,
-        Alternative::Body(body) => body.definition.body(),
-    };
+// What an alternative begins with, whatever the term; of a definition with several bodies that of
+// one whose left side may match it, or else of the first.
+fn first_part<'a>(about: About<'a>, alternative: Alternative<'a>, term: &Term) -> Part<'a> {
+    let mut part = alternative.part();
     for _ in 0..DEEPEST {
-        let inside = match strategy.form() {
-            StrategyForm::Seq(parts) => Some(&parts.0),
-            StrategyForm::Scope(_, inside) => Some(&**inside),
-            StrategyForm::Test(inside) => Some(&**inside),
-            StrategyForm::Use(name, strategies, patterns)
-                if strategies.is_empty() && patterns.is_empty() => { best_body(about, name, term) }
-            _ => None,
-        };
-        let Some(inside) = inside else {
-            break;
-        };
-        strategy = inside;
-    }
-    strategy
-}
-
-fn best_body<'a>(about: About<'a>, name: &Name, term: &Term) -> Option<&'a Strategy> {
-    let mut first = None;
-    for body in about.bodies {
-        let definition = body.definition;
-        if definition.name().equals(name) && arity_of(definition) == (0, 0) {
-            if let Some(pattern) = matched(definition.body())
-                && may_match(pattern, term)
-            {
-                return Some(definition.body());
+        let inside = match (part.resolved.form(), part.named.form()) {
+            (Form::Test(part), Named::Test(name)) => Some(Part::new(part, name)),
+            (Form::Call(number, strategies, patterns), _)
+                if strategies.is_empty() && patterns.is_empty() => {
+                best_body(about, *number, term)
             }
-            first = first.or(Some(definition.body()));
+            _ => part.front(),
+        };
+        match inside {
+            Some(inside) => part = inside,
+            None => break,
         }
     }
-    first
+    part
+}
+
+fn best_body<'a>(about: About<'a>, number: usize, term: &Term) -> Option<Part<'a>> {
+    for before in 0..DEEPEST {
+        let Some(body) = about.body(number, before) else {
+            break;
+        };
+        if let Some(left) = matched(body.whole())
+            && may_match(left.resolved, term.kind(), term.child_count())
+        {
+            return Some(body.whole());
+        }
+    }
+    Some(about.body(number, 0)?.whole())
 }
 
 // Whether an alternative may succeed with the term, by its root.
 fn matches_root(about: About<'_>, alternative: Alternative<'_>, term: &Term) -> bool {
-    let count = term.child_count();
-    match first_form(about, alternative, term).form() {
-        StrategyForm::Match(pattern) => may_match(pattern, term),
-        StrategyForm::Congruence(head, parts) => {
-            head.is_head_of(term.kind()) && parts.len() == count
-        }
-        StrategyForm::TailCongruence(parts, _) => {
-            matches!(term.kind(), Kind::List) && parts.len() <= count
-        }
-        _ => true,
+    let (kind, count) = (term.kind(), term.child_count());
+    match first_part(about, alternative, term).resolved.form() {
+        Form::Match(pattern) => may_match(pattern, kind, count),
+        Form::Congruence(head, parts) => head.is_head_of(kind) && parts.len() == count,
+        Form::TailCongruence(parts, _) => matches!(kind, Kind::List) && parts.len() <= count,
+        Form::Id
+        | Form::Fail
+        | Form::Build(_)
+        | Form::Seq(_)
+        | Form::Guard(_)
+        | Form::Test(_)
+        | Form::Scope(_, _)
+        | Form::Param(_)
+        | Form::Call(_, _, _)
+        | Form::All(_)
+        | Form::One(_)
+        | Form::Some(_)
+        | Form::Child(_, _)
+        | Form::Rec(_)
+        | Form::Prim(_, _) => true,
     }
 }
 
@@ -222,7 +241,7 @@ impl Teller<'_> {
     // The text of a strategy, or the name of a body with its line.
     fn say_alternative(&mut self, alternative: Alternative<'_>) {
         match alternative {
-            Alternative::Strategy(strategy) => say!(self.hint; "{}", Fill::Strategy(strategy)),
+            Alternative::Strategy(part) => say!(self.hint; "{}", Fill::Strategy(part.named)),
             Alternative::Body(body) => {
                 self.say_definition(body.number);
                 say!(self.hint; " of {}", Fill::Line(body.line()));
@@ -232,32 +251,60 @@ impl Teller<'_> {
 
     // Appends why an alternative failed whose root matches.
     fn say_why(&mut self, alternative: Alternative<'_>, term: &Term) {
-        let StrategyForm::Match(pattern) = first_form(self.about, alternative, term).form() else {
+        let part = first_part(self.about, alternative, term);
+        let (Form::Match(resolved), Named::Match(named)) = (part.resolved.form(), part.named.form())
+        else {
             self.hint.words(" fails");
             return;
         };
-        match find_miss(self.about.alloc, &[], pattern, term) {
-            Ok(Some(miss)) => self.say_miss(miss),
-            Ok(None) => self.hint.words(" matches, and fails after that"),
+        match compare(self.about.alloc, resolved, &Value::original(term), None) {
+            Ok(Compared { miss: None, .. }) => self.hint.words(" matches, and fails after that"),
+            Ok(
+                Compared {
+                    miss: Some(miss),
+                    ..
+                },
+            ) => {
+                let said = self.say_miss(named, &miss);
+                self.hint.keep(said);
+            }
             Err(NoMemory) => self.hint.keep(Err(NoMemory)),
         }
     }
 
     /// Appends what a pattern takes in place of what is there.
-    pub fn say_miss(&mut self, miss: Miss<'_>) {
-        let (pattern, term) = (Fill::Pattern(miss.pattern), Fill::Term(miss.term));
-        if let Some(bound) = miss.bound {
-            say!(self.hint; " has {} for {} already, and here is {}", pattern, Fill::Term(bound), term);
-        } else if !miss.is_root {
-            say!(self.hint; " has {}, and there is {}", pattern, term);
+    pub fn say_miss(&mut self, whole: &Pattern, miss: &Miss<'_>) -> Result<(), NoMemory> {
+        let alloc = self.about.alloc;
+        let part = part_after(alloc, whole, miss.before)?;
+        let term = miss.value.to_term(alloc)?;
+        let (pattern, there) = (Fill::Pattern(part), Fill::Term(&term));
+        let mut is_annotated = miss.is_annotated;
+        if let Some(bound) = &miss.bound {
+            let bound = bound.to_term(alloc)?;
+            is_annotated = are_alike(&bound, &term, DEEPEST);
+            say!(self.hint; " has {} for {} already, and here is {}", pattern, Fill::Term(&bound), there);
+        } else if !miss.is_root || is_annotated {
+            say!(self.hint; " has {}, and there is {}", pattern, there);
         } else {
             self.hint.words(" takes ");
-            match miss.pattern.form() {
-                PatternForm::Integer(value) => self.hint.root(Kind::Integer(*value), 0),
-                PatternForm::Compound(head, parts) => self.hint.root(kind_of(head), parts.len()),
-                PatternForm::WithTail(parts, _) => self.say_list(parts.len()),
-                _ => {}
-            }
+            self.say_root(part);
+        }
+        if is_annotated {
+            self.hint.words("; it differs only in annotations");
+        }
+        Ok(())
+    }
+
+    // Appends what the root of a pattern takes.
+    fn say_root(&mut self, pattern: &Pattern) {
+        match pattern.form() {
+            PatternForm::Integer(value) => self.hint.root(Kind::Integer(*value), 0),
+            PatternForm::Compound(head, parts) => self.hint.root(kind_of(head), parts.len()),
+            PatternForm::WithTail(parts, _) => self.say_list(parts.len()),
+            PatternForm::Wildcard
+            | PatternForm::Variable(_)
+            | PatternForm::At(_, _)
+            | PatternForm::Annotated(_, _) => {}
         }
     }
 

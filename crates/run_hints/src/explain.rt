@@ -1,17 +1,17 @@
 //! Runs of commands, run again and looked at.
 
-use crate::about::{About, bodies_of};
+use crate::about::About;
 use crate::observing::{Observer, RunRecord, Wanted};
 use crate::spending::sum;
 use crate::telling::Teller;
-use hint_text::{Fill, Hint, ScriptCommand, Text, parts_of, read_modules, say};
+use hint_text::{CommandParts, Fill, Hint, ScriptCommand, parts_of, say};
 use prim_core::{Meaning, Primitives};
-use session_history::{Refusal, Timeline};
+use session_history::{CheckedTexts, Refusal, Timeline};
 use std::alloc::Global;
-use strategy_check::{Program, resolve};
+use strategy_check::resolve;
 use strategy_machine::Host;
 use strategy_parse::parse_strategy;
-use strategy_run::plan_patch_seen;
+use strategy_run::{Ended, plan_patch_seen};
 use term_core::{MAX_HEIGHT, NoMemory, Term};
 use term_paths::at;
 
@@ -19,8 +19,8 @@ use term_paths::at;
 #[derive(Drop)]
 pub struct Ground<'a, M: Meaning> {
     pub history: &'a Timeline,
-    /// The program of the modules that were checked last, if it is kept.
-    pub program: Option<&'a Program>,
+    /// The modules that were checked last, if they are kept.
+    pub modules: Option<&'a CheckedTexts>,
     pub primitives: &'a Primitives<M>,
 }
 
@@ -41,10 +41,20 @@ pub fn explain_run<'a, M: Meaning>(
         Refusal::Big => Wanted::End,
         _ => return Ok(Vec::new(alloc)),
     };
-    match tree_of(alloc, ground.history, command) {
-        Some(tree) => look_at(alloc, ground, command, tree, wanted),
-        None => Ok(Vec::new(alloc)),
-    }
+    look_at_own(alloc, ground, command, wanted)
+}
+
+/// At most three lines on the rule that came nearest to a match in an accepted command that
+/// replaced nothing, each with a line feed before it; nothing if no rule of the user matched a root
+/// without matching all. The command is run again, in the session after it.
+///
+/// Errors: `NoMemory` if memory can't grow.
+pub fn explain_nothing<'a, M: Meaning>(
+    alloc: Global,
+    ground: &Ground<'a, M>,
+    command: &ScriptCommand<'a>,
+) -> Result<Vec<u8>, NoMemory> {
+    look_at_own(alloc, ground, command, Wanted::Nearest)
 }
 
 /// Two lines on where the steps of an accepted command went that applied a strategy to this tree;
@@ -57,7 +67,14 @@ pub fn profile_run<'a, M: Meaning>(
     command: &ScriptCommand<'a>,
     tree: &'a Term,
 ) -> Result<Vec<u8>, NoMemory> {
-    look_at(alloc, ground, command, tree, Wanted::Steps)
+    look_at(
+        alloc,
+        ground,
+        command,
+        &parts_of(command.text),
+        tree,
+        Wanted::Steps,
+    )
 }
 
 /// The tree that the command applies a strategy to, if it does.
@@ -66,7 +83,10 @@ pub fn tree_of<'a>(
     history: &'a Timeline,
     command: &ScriptCommand<'_>,
 ) -> Option<&'a Term> {
-    let parts = parts_of(command.text);
+    tree_in(alloc, history, &parts_of(command.text))
+}
+
+fn tree_in<'a>(alloc: Global, history: &'a Timeline, parts: &CommandParts<'_>) -> Option<&'a Term> {
     if parts.is_strategy() {
         parts.tree(alloc, history)
     } else {
@@ -74,33 +94,52 @@ pub fn tree_of<'a>(
     }
 }
 
-// Runs the command on the tree, and says what is wanted.
+// Runs the command on its tree, if it applies a strategy, and says what is wanted.
+fn look_at_own<'a, M: Meaning>(
+    alloc: Global,
+    ground: &Ground<'a, M>,
+    command: &ScriptCommand<'a>,
+    wanted: Wanted,
+) -> Result<Vec<u8>, NoMemory> {
+    let parts = parts_of(command.text);
+    match tree_in(alloc, ground.history, &parts) {
+        Some(tree) => look_at(alloc, ground, command, &parts, tree, wanted),
+        None => Ok(Vec::new(alloc)),
+    }
+}
+
+// Runs the command of these parts on the tree, and says what is wanted.
 fn look_at<'a, M: Meaning>(
     alloc: Global,
     ground: &Ground<'a, M>,
     command: &ScriptCommand<'a>,
+    parts: &CommandParts<'a>,
     tree: &'a Term,
     wanted: Wanted,
 ) -> Result<Vec<u8>, NoMemory> {
-    let parts = parts_of(command.text);
     let path = parts.path_or_root(alloc)?;
-    let (Some(term), Some(program)) = (at(tree, &path), ground.program) else {
+    let (Some(term), Some(modules)) = (at(tree, &path), ground.modules) else {
         return Ok(Vec::new(alloc));
+    };
+    let asked = Asked {
+        line: command.line,
+        steps: parts.number_or(command.budget),
+        wanted,
     };
     // Each of these is held where there is one way out: its drop is proved at each.
     match parse_strategy(alloc, parts.text) {
-        Ok(named) => match resolve(alloc, program, ground.primitives, &named) {
+        Ok(named) => match resolve(alloc, modules.program(), ground.primitives, &named) {
             Ok(resolved) => {
                 let about = About {
                     alloc,
-                    program,
-                    bodies: &[],
+                    modules,
+                    text: parts.text,
                     named: &named,
                     resolved: &resolved,
                     term,
                     path: path.parts(),
                 };
-                look_at_run(ground, command, about, wanted)
+                tell(ground, about, asked)
             }
             Err(_) => Ok(Vec::new(alloc)),
         },
@@ -108,43 +147,24 @@ fn look_at<'a, M: Meaning>(
     }
 }
 
-fn look_at_run<M: Meaning>(
-    ground: &Ground<'_, M>,
-    command: &ScriptCommand<'_>,
-    about: About<'_>,
+// What is asked of a command on this line that may take so many steps.
+#[derive(Clone, Copy)]
+struct Asked {
+    line: u64,
+    steps: u64,
     wanted: Wanted,
-) -> Result<Vec<u8>, NoMemory> {
-    let history = ground.history;
-    let names = history.module_names()?;
-    let mut modules = Vec::new(about.alloc);
-    match read_modules(
-        &mut modules,
-        history,
-        &names,
-        &parts_of(command.text),
-        false,
-    ) {
-        Ok(()) => tell(ground, command, about, &modules, wanted),
-        Err(NoMemory) => Err(NoMemory),
-    }
 }
 
-fn tell<'a, M: Meaning>(
+fn tell<M: Meaning>(
     ground: &Ground<'_, M>,
-    command: &ScriptCommand<'_>,
-    about: About<'a>,
-    modules: &'a [Text<'a>],
-    wanted: Wanted,
+    about: About<'_>,
+    asked: Asked,
 ) -> Result<Vec<u8>, NoMemory> {
-    let bodies = bodies_of(about.alloc, modules)?;
     let mut teller = Teller {
-        about: About {
-            bodies: &bodies,
-            ..about
-        },
+        about,
         hint: Hint::new(about.alloc),
     };
-    let told = tell_run(&mut teller, ground, command, wanted);
+    let told = tell_run(&mut teller, ground, asked);
     teller.hint.keep(told);
     teller.hint.into_text()
 }
@@ -152,33 +172,42 @@ fn tell<'a, M: Meaning>(
 fn tell_run<M: Meaning>(
     teller: &mut Teller<'_>,
     ground: &Ground<'_, M>,
-    command: &ScriptCommand<'_>,
-    wanted: Wanted,
+    asked: Asked,
 ) -> Result<(), NoMemory> {
-    let kept = watch(ground, command, teller.about, wanted)?;
-    tell_kept(teller, ground, command, wanted, &kept)
+    let kept = watch(ground, teller.about, asked)?;
+    tell_kept(teller, ground, asked, &kept)
 }
 
 fn tell_kept<M: Meaning>(
     teller: &mut Teller<'_>,
     ground: &Ground<'_, M>,
-    command: &ScriptCommand<'_>,
-    wanted: Wanted,
+    asked: Asked,
     kept: &RunRecord<'_>,
 ) -> Result<(), NoMemory> {
-    match (wanted, &kept.stand, kept.causes.greatest()) {
+    let nearest = kept.nearest.as_ref();
+    match (asked.wanted, &kept.stand, kept.causes.greatest()) {
         (Wanted::Spending, _, _) => teller.say_spent(kept),
         (Wanted::Steps, _, _) => {
             let steps = Fill::Count(sum(&kept.spent), "step");
-            say!(teller.hint; "line {}: {}", Fill::Number(command.line), steps);
+            say!(teller.hint; "line {}: {}", Fill::Number(asked.line), steps);
             teller.say_shares(&kept.spent);
         }
-        (_, None, _) => {}
+        (Wanted::Nearest, _, _) => {
+            if let Some(nearest) = nearest
+                && kept.has_left
+            {
+                teller.say_nearest(nearest);
+            }
+        }
+        (Wanted::Failure | Wanted::FailureIn(_) | Wanted::End, None, _) => {}
         (Wanted::End, Some(stand), _) => teller.say_big(stand),
-        (_, Some(stand), None) => teller.say_failure(stand, None, 0),
-        (_, Some(stand), Some(cause)) => {
-            let earlier = watch(ground, command, teller.about, Wanted::FailureIn(cause.turn))?;
-            teller.say_failure(stand, earlier.stand.as_ref(), cause.steps);
+        (Wanted::Failure | Wanted::FailureIn(_), Some(stand), None) => {
+            teller.say_failure(stand, nearest, None, 0);
+        }
+        (Wanted::Failure | Wanted::FailureIn(_), Some(stand), Some(cause)) => {
+            let wanted = Wanted::FailureIn(cause.turn);
+            let earlier = watch(ground, teller.about, Asked { wanted, ..asked })?;
+            teller.say_failure(stand, nearest, earlier.stand.as_ref(), cause.steps);
         }
     }
     Ok(())
@@ -187,29 +216,33 @@ fn tell_kept<M: Meaning>(
 // Runs it again, and returns what is kept of that.
 fn watch<'t, M: Meaning>(
     ground: &Ground<'t, M>,
-    command: &ScriptCommand<'_>,
     about: About<'t>,
-    wanted: Wanted,
+    asked: Asked,
 ) -> Result<RunRecord<'t>, NoMemory> {
-    let steps = parts_of(command.text).number_or(command.budget);
     let host = Host {
-        definitions: about.program.definitions(),
+        definitions: about.modules.program().definitions(),
         primitives: ground.primitives,
         room: ground.history.limits().max_terms,
     };
-    let kept = RunRecord::new(about, wanted, steps)?;
+    let kept = RunRecord::new(about, asked.wanted, asked.steps)?;
     let mut observer = Observer { host: &host, kept };
     let (alloc, term, level) = (about.alloc, about.term, about.path.len() as u64);
     let mut has_run = true;
+    let mut has_left = false;
     if let Some(most) = MAX_HEIGHT.checked_sub(level)
         && term.height() <= most
     {
         let (strategy, look) = (about.resolved, &mut observer);
-        has_run = plan_patch_seen(alloc, &host, term, level, strategy, steps, look).is_ok();
+        let ended = plan_patch_seen(alloc, &host, term, level, strategy, asked.steps, look);
+        has_run = ended.is_ok();
+        if let Ok(Ended::Done(planned)) = ended {
+            has_left = planned.patch.is_nothing();
+        }
     }
     if !has_run && !observer.kept.is_complete() {
         return Err(NoMemory);
     }
-    let Observer { kept, .. } = observer;
+    let Observer { mut kept, .. } = observer;
+    kept.has_left = has_left;
     Ok(kept)
 }

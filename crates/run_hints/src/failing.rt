@@ -1,9 +1,9 @@
 //! Why a run failed, and where it met a term that is too big.
 
-use crate::about::StrategyPlace;
+use crate::about::{StrategyPlace, split_bodies};
 use crate::alternatives::alternatives;
-use crate::finding::are_same;
-use crate::matching::{find_miss, matched};
+use crate::finding::{is_same, is_search};
+use crate::matching::{matched, may_match};
 use crate::observing::{Bound, Stand};
 use crate::telling::{Teller, kind_of};
 use hint_text::{Fill, say};
@@ -16,12 +16,37 @@ const SHOWN: usize = 3;
 
 impl Teller<'_> {
     /// Says what failed, where, and why; and if an alternative before it took more than a few
-    /// steps, what failed there, and how many steps it took.
-    pub fn say_failure(&mut self, failure: &Stand<'_>, cause: Option<&Stand<'_>>, steps: u64) {
-        match cause {
-            Some(cause) if !is_repeated(cause, failure) => {
+    /// steps, what failed there, and how many steps it took. In place of a search that found
+    /// nothing it says what came nearest, and what got furthest.
+    pub fn say_failure(
+        &mut self,
+        failure: &Stand<'_>,
+        nearest: Option<&Stand<'_>>,
+        cause: Option<&Stand<'_>>,
+        steps: u64,
+    ) {
+        let is_search = is_search(failure.strategy);
+        let steps = Fill::Count(steps, "step");
+        let furthest = cause.filter(|cause| tells_why(cause));
+        let other = furthest.filter(|cause| !matches!(nearest, Some(it) if is_repeated(cause, it)));
+        match (nearest, cause) {
+            (Some(nearest), _)
+                if is_search || (furthest.is_none() && is_elsewhere(nearest, failure)) => {
+                if !is_search {
+                    self.say_failed(failure, "\n    ", cause.is_none());
+                }
+                self.say_nearest(nearest);
+                if let Some(cause) = other {
+                    say!(self.hint; "\n    got furthest, in {}: ", steps);
+                    self.say_failed(cause, "", false);
+                }
+            }
+            (_, Some(cause)) if is_search && furthest.is_some() => {
+                say!(self.hint; "\n    got furthest, in {}: ", steps);
+                self.say_failed(cause, "", false);
+            }
+            (_, Some(cause)) if !is_repeated(cause, failure) => {
                 self.say_failed(failure, "\n    ", false);
-                let steps = Fill::Count(steps, "step");
                 say!(self.hint; "\n    tried before that, and got furthest, in {}: ", steps);
                 self.say_failed(cause, "", false);
             }
@@ -29,15 +54,20 @@ impl Teller<'_> {
         }
     }
 
-    fn say_failed(&mut self, stand: &Stand<'_>, before: &'static str, with_alternatives: bool) {
+    /// Says which rule came nearest to a match.
+    pub fn say_nearest(&mut self, nearest: &Stand<'_>) {
+        self.say_failed(nearest, "\n    nearest to a match: ", false);
+    }
+
+    /// Says what failed, where, and why, after these words.
+    pub fn say_failed(&mut self, stand: &Stand<'_>, before: &'static str, with_alternatives: bool) {
         if let Some(place) = stand.place {
             self.hint.words(before);
             if stand.is_rest {
-                self.say_stand(place, stand, "gives");
+                let _ = self.say_stand(place, stand, "gives");
                 self.hint
                     .words("\n    that is no list, and is given for the rest of one");
-            } else {
-                self.say_stand(place, stand, "fails on");
+            } else if self.say_stand(place, stand, "fails on") {
                 let told = self.say_reason(place, stand);
                 if with_alternatives {
                     let most = if told { 2 } else { 3 };
@@ -55,22 +85,33 @@ impl Teller<'_> {
     pub fn say_big(&mut self, stand: &Stand<'_>) {
         if let Some(place) = stand.place {
             self.hint.words("\n    ");
-            self.say_stand(place, stand, "makes it from");
+            let _ = self.say_stand(place, stand, "makes it from");
             let size = Fill::Count(stand.focus.size(), "term");
             say!(self.hint; "\n    what it makes it from has {} in it", size);
         }
         self.say_calls(stand);
     }
 
-    // The strategy, what it did with which term, and where both are.
-    fn say_stand(&mut self, place: StrategyPlace<'_>, stand: &Stand<'_>, did: &'static str) {
+    // The strategy, what it did with which term, and where both are. Returns whether the strategy
+    // is shown: it isn't where its text gives another one.
+    fn say_stand(
+        &mut self,
+        place: StrategyPlace<'_>,
+        stand: &Stand<'_>,
+        did: &'static str,
+    ) -> bool {
         let (did, term) = (Fill::Words(did), Fill::Term(&stand.focus));
+        let mut is_shown = true;
         match place.node {
-            Some(node) => {
-                let begun = begun_first(node.guard.unwrap_or(node.named));
+            Some(node) if self.about.is_shown(place.body, node) => {
+                let begun = begun_first(node.guard.unwrap_or(node.part.named));
                 say!(self.hint; "{} {} {}", Fill::Strategy(begun), did, term);
             }
-            None => say!(self.hint; "each body {} {}", did, term),
+            None if place.is_choice => say!(self.hint; "each body {} {}", did, term),
+            _ => {
+                is_shown = false;
+                say!(self.hint; "a part {} {}", did, term);
+            }
         }
         // A term that was built has another place in the tree, or none.
         let is_there = match at_parts(self.about.term, &stand.spot.path) {
@@ -82,12 +123,13 @@ impl Teller<'_> {
         self.say_spot(&stand.spot);
         let Some(body) = place.body else {
             self.hint.words(", in the strategy of the command");
-            return;
+            return is_shown;
         };
         self.hint.words(", in ");
         self.say_definition(body.number);
-        let module = Fill::Quoted(body.module.name);
+        let module = Fill::Quoted(body.module);
         say!(self.hint; " of the module {}, {} of its text", module, Fill::Line(body.line()));
+        is_shown
     }
 
     // Says why a strategy failed that is no choice. Returns whether there was something to say.
@@ -101,10 +143,10 @@ impl Teller<'_> {
             say!(self.hint; "\n    {} succeeds", Fill::Strategy(&parts.0));
             return true;
         }
-        if let Some(pattern) = matched(node.named) {
-            return self.say_mismatch(pattern, stand);
+        if let Some(left) = matched(node.part) {
+            return self.say_mismatch(left.named, stand);
         }
-        match node.named.form() {
+        match node.part.named.form() {
             StrategyForm::TailCongruence(parts, _) => {
                 self.hint.words("\n    it takes ");
                 self.say_list(parts.len());
@@ -117,7 +159,20 @@ impl Teller<'_> {
                 self.hint.words("\n    it takes ");
                 self.hint.root(Kind::Application(name), parts.len());
             }
-            _ => {
+            StrategyForm::Id
+            | StrategyForm::Fail
+            | StrategyForm::Match(_)
+            | StrategyForm::Build(_)
+            | StrategyForm::Seq(_)
+            | StrategyForm::Guard(_)
+            | StrategyForm::Test(_)
+            | StrategyForm::Scope(_, _)
+            | StrategyForm::All(_)
+            | StrategyForm::One(_)
+            | StrategyForm::Some(_)
+            | StrategyForm::Child(_, _)
+            | StrategyForm::Rec(_, _)
+            | StrategyForm::Prim(_, _) => {
                 self.say_bound(&stand.bound);
                 return !stand.bound.is_empty();
             }
@@ -127,16 +182,13 @@ impl Teller<'_> {
 
     // Says where the pattern doesn't match the term. Returns whether there is such a place.
     fn say_mismatch(&mut self, pattern: &Pattern, stand: &Stand<'_>) -> bool {
-        match find_miss(self.about.alloc, &stand.bound, pattern, &stand.focus) {
-            Ok(Some(miss)) => {
-                say!(self.hint; "\n    {}", Fill::Pattern(pattern));
-                self.say_miss(miss);
-                return true;
-            }
-            Ok(None) => {}
-            Err(NoMemory) => self.hint.keep(Err(NoMemory)),
-        }
-        false
+        let Some(miss) = &stand.miss else {
+            return false;
+        };
+        say!(self.hint; "\n    {}", Fill::Pattern(pattern));
+        let said = self.say_miss(pattern, miss);
+        self.hint.keep(said);
+        true
     }
 
     // Says what the first variables are bound to.
@@ -150,9 +202,34 @@ impl Teller<'_> {
     }
 }
 
+// Whether something else than the root of a pattern failed, or a search.
+fn tells_why(stand: &Stand<'_>) -> bool {
+    !is_search(stand.strategy) && !misses_root(stand)
+}
+
+// Whether a rule failed at the root of its left side, and nearly matched elsewhere.
+fn is_elsewhere(nearest: &Stand<'_>, failure: &Stand<'_>) -> bool {
+    is_same(failure.strategy, nearest.strategy) && misses_root(failure)
+}
+
+// Whether what failed is a match, at the root of its pattern.
+fn misses_root(stand: &Stand<'_>) -> bool {
+    if let Some(place) = stand.place
+        && let Some(node) = place.node
+        && let Some(left) = matched(node.part)
+    {
+        return !may_match(left.resolved, stand.focus.kind(), stand.focus.child_count());
+    }
+    false
+}
+
 // Whether both say the same.
 fn is_repeated(cause: &Stand<'_>, failure: &Stand<'_>) -> bool {
-    cause.focus.equals(&failure.focus) && are_same(cause.strategy, failure.strategy)
+    let (first, others) = split_bodies(cause.strategy);
+    let (second, more) = split_bodies(failure.strategy);
+    cause.focus.equals(&failure.focus)
+        && is_same(first, second)
+        && others.is_some() == more.is_some()
 }
 
 // Of a sequence that begins with a match only that was begun.

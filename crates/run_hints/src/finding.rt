@@ -1,18 +1,35 @@
-//! Strategies with their names, found by the resolved ones that a run begins.
+//! Strategies with their names, found by the places of the resolved ones that a run begins.
 
-use hint_text::DEEPEST;
-use strategy_syntax::{
-    ResolvedForm as Form, ResolvedPattern, ResolvedPatternForm, ResolvedStrategy, Strategy,
-    StrategyForm as Named,
-};
+use strategy_syntax::{ResolvedForm as Form, ResolvedStrategy, Strategy, StrategyForm as Named};
 
-/// A part of a strategy, resolved and with its names.
+/// A strategy, resolved and with its names.
 #[derive(Clone, Copy)]
-pub struct Node<'a> {
+pub struct Part<'a> {
     pub resolved: &'a ResolvedStrategy,
     pub named: &'a Strategy,
+}
+
+impl<'a> Part<'a> {
+    pub fn new(resolved: &'a ResolvedStrategy, named: &'a Strategy) -> Part<'a> {
+        Part { resolved, named }
+    }
+
+    /// What it begins with, if it is a sequence or a scope.
+    pub fn front(self) -> Option<Part<'a>> {
+        match (self.resolved.form(), self.named.form()) {
+            (Form::Seq(parts), Named::Seq(names)) => Some(Part::new(&parts.0, &names.0)),
+            (Form::Scope(_, part), Named::Scope(_, name)) => Some(Part::new(part, name)),
+            _ => None,
+        }
+    }
+}
+
+/// A part of a strategy, and what is around it.
+#[derive(Clone, Copy)]
+pub struct Node<'a> {
+    pub part: Part<'a>,
     /// The choice among whose alternatives it is the last.
-    pub choice: Option<&'a Strategy>,
+    pub choice: Option<Part<'a>>,
     /// The choice that it ends as `fail` after the condition has succeeded, as in `not(s)`.
     pub guard: Option<&'a Strategy>,
     /// Whether it is the whole strategy, or the last alternative of that.
@@ -21,10 +38,9 @@ pub struct Node<'a> {
 
 impl<'a> Node<'a> {
     /// A strategy that is no part, or one whose failure isn't that of the strategy around it.
-    pub fn new(resolved: &'a ResolvedStrategy, named: &'a Strategy, is_whole: bool) -> Node<'a> {
+    pub fn new(part: Part<'a>, is_whole: bool) -> Node<'a> {
         Node {
-            resolved,
-            named,
+            part,
             choice: None,
             guard: None,
             is_whole,
@@ -33,34 +49,44 @@ impl<'a> Node<'a> {
 
     // A part that fails where this does, and is applied to the same term.
     fn front(self, resolved: &'a ResolvedStrategy, named: &'a Strategy) -> Node<'a> {
-        let mut part = Node::new(resolved, named, self.is_whole);
-        part.choice = self.choice;
-        part
+        Node {
+            part: Part::new(resolved, named),
+            guard: None,
+            ..self
+        }
     }
 
-    /// The part of it that is this strategy, or one of several.
+    // Any other part.
+    fn inner(resolved: &'a ResolvedStrategy, named: &'a Strategy) -> Node<'a> {
+        Node::new(Part::new(resolved, named), false)
+    }
+
+    /// The part of it that is this strategy, by its place and its form.
     #[cycle(find)]
     pub fn find(self, wanted: &ResolvedStrategy, deep: usize) -> Option<Node<'a>> {
         let deep = deep.checked_sub(1)?;
-        if is_same(self.resolved, wanted, DEEPEST) {
+        let Part { resolved, named } = self.part;
+        if !is_around(resolved, wanted) {
+            return None;
+        }
+        if is_same(resolved, wanted) {
             return Some(self);
         }
-        match (self.resolved.form(), self.named.form()) {
+        match (resolved.form(), named.form()) {
             (Form::Seq(parts), Named::Seq(names)) => {
-                let second = Node::new(&parts.1, &names.1, false);
                 self.front(&parts.0, &names.0)
                     .find(wanted, deep)
-                    .or(second.find(wanted, deep))
+                    .or(Node::inner(&parts.1, &names.1).find(wanted, deep))
             }
             (Form::Guard(parts), Named::Guard(names)) => {
-                let first = Node::new(&parts.0, &names.0, false);
-                let mut then = Node::new(&parts.1, &names.1, false);
+                let first = Node::inner(&parts.0, &names.0);
+                let mut then = Node::inner(&parts.1, &names.1);
                 if let Form::Fail = parts.1.form() {
                     then = self.front(&parts.1, &names.1);
-                    then.guard = Some(self.named);
+                    then.guard = Some(named);
                 }
                 let mut otherwise = self.front(&parts.2, &names.2);
-                otherwise.choice = self.choice.or(Some(self.named));
+                otherwise.choice = self.choice.or(Some(self.part));
                 otherwise
                     .find(wanted, deep)
                     .or(then.find(wanted, deep))
@@ -73,7 +99,7 @@ impl<'a> Node<'a> {
             | (Form::One(part), Named::One(name))
             | (Form::Some(part), Named::Some(name))
             | (Form::Child(_, part), Named::Child(_, name)) => {
-                Node::new(part, name, false).find(wanted, deep)
+                Node::inner(part, name).find(wanted, deep)
             }
             (Form::Call(_, parts, _), Named::Use(_, names, _))
             | (Form::Congruence(_, parts), Named::Use(_, names, _))
@@ -81,11 +107,32 @@ impl<'a> Node<'a> {
                 find_among(parts, names, wanted, deep)
             }
             (Form::TailCongruence(parts, tail), Named::TailCongruence(names, name)) => {
-                Node::new(tail, name, false)
+                Node::inner(tail, name)
                     .find(wanted, deep)
                     .or(find_among(parts, names, wanted, deep))
             }
-            _ => None,
+            // those without parts, and those that aren't resolved from one another
+            (
+                Form::Id
+                | Form::Fail
+                | Form::Match(_)
+                | Form::Build(_)
+                | Form::Param(_)
+                | Form::Prim(_, _)
+                | Form::Seq(_)
+                | Form::Guard(_)
+                | Form::Scope(_, _)
+                | Form::Test(_)
+                | Form::Rec(_)
+                | Form::All(_)
+                | Form::One(_)
+                | Form::Some(_)
+                | Form::Child(_, _)
+                | Form::Call(_, _, _)
+                | Form::Congruence(_, _)
+                | Form::TailCongruence(_, _),
+                _,
+            ) => None,
         }
     }
 }
@@ -99,108 +146,48 @@ fn find_among<'a>(
 ) -> Option<Node<'a>> {
     let mut found = None;
     for (part, name) in parts.iter().zip(names) {
-        found = Node::new(part, name, false).find(wanted, deep).or(found);
+        found = Node::inner(part, name).find(wanted, deep).or(found);
     }
     found
 }
 
-// ---- equality
-
-/// Whether both are the same strategy.
-pub fn are_same(strategy: &ResolvedStrategy, other: &ResolvedStrategy) -> bool {
-    is_same(strategy, other, DEEPEST)
+/// Whether the other strategy stands within this one, or at its place.
+pub fn is_around(strategy: &ResolvedStrategy, part: &ResolvedStrategy) -> bool {
+    strategy.text() == part.text() && strategy.place().contains(part.place())
 }
 
-#[cycle(same)]
-fn is_same(strategy: &ResolvedStrategy, other: &ResolvedStrategy, deep: usize) -> bool {
-    let Some(deep) = deep.checked_sub(1) else {
-        return false;
-    };
-    match (strategy.form(), other.form()) {
-        (Form::Id, Form::Id) | (Form::Fail, Form::Fail) => true,
-        (Form::Param(number), Form::Param(more)) => number == more,
-        (Form::Match(part), Form::Match(more)) | (Form::Build(part), Form::Build(more)) => {
-            is_same_pattern(part, more, deep)
-        }
-        (Form::Seq(parts), Form::Seq(more)) => {
-            is_same(&parts.0, &more.0, deep) && is_same(&parts.1, &more.1, deep)
-        }
-        (Form::Guard(parts), Form::Guard(more)) => {
-            is_same(&parts.0, &more.0, deep)
-                && is_same(&parts.1, &more.1, deep)
-                && is_same(&parts.2, &more.2, deep)
-        }
-        (Form::Test(part), Form::Test(more))
-        | (Form::All(part), Form::All(more))
-        | (Form::One(part), Form::One(more))
-        | (Form::Some(part), Form::Some(more))
-        | (Form::Rec(part), Form::Rec(more)) => is_same(part, more, deep),
-        (Form::Scope(number, part), Form::Scope(count, more))
-        | (Form::Child(number, part), Form::Child(count, more)) => {
-            number == count && is_same(part, more, deep)
-        }
-        (Form::Call(number, parts, patterns), Form::Call(count, more, others)) => {
-            number == count
-                && all_same(parts, more, deep)
-                && all_same_patterns(patterns, others, deep)
-        }
-        (Form::Prim(number, patterns), Form::Prim(count, others)) => {
-            number == count && all_same_patterns(patterns, others, deep)
-        }
-        (Form::Congruence(head, parts), Form::Congruence(another, more)) => {
-            head.equals(another) && all_same(parts, more, deep)
-        }
-        (Form::TailCongruence(parts, tail), Form::TailCongruence(more, another)) => {
-            all_same(parts, more, deep) && is_same(tail, another, deep)
-        }
-        _ => false,
-    }
+/// Whether both have one place and one form: then they are the same.
+pub fn is_same(strategy: &ResolvedStrategy, other: &ResolvedStrategy) -> bool {
+    strategy.text() == other.text()
+        && strategy.place() == other.place()
+        && form_number(strategy.form()) == form_number(other.form())
 }
 
-#[cycle(same)]
-fn all_same(parts: &[ResolvedStrategy], others: &[ResolvedStrategy], deep: usize) -> bool {
-    let mut same = parts.len() == others.len();
-    for (part, other) in parts.iter().zip(others) {
-        same = same && is_same(part, other, deep);
-    }
-    same
+/// Whether it looks for a child. Where it fails is the last place that was looked at, and doesn't
+/// say why.
+pub fn is_search(strategy: &ResolvedStrategy) -> bool {
+    matches!(strategy.form(), Form::One(_) | Form::Some(_))
 }
 
-#[cycle(same_pattern)]
-fn is_same_pattern(pattern: &ResolvedPattern, other: &ResolvedPattern, deep: usize) -> bool {
-    let Some(deep) = deep.checked_sub(1) else {
-        return false;
-    };
-    match (pattern.form(), other.form()) {
-        (ResolvedPatternForm::Wildcard, ResolvedPatternForm::Wildcard) => true,
-        (ResolvedPatternForm::Variable(number), ResolvedPatternForm::Variable(more)) => number
-            == more,
-        (ResolvedPatternForm::Integer(value), ResolvedPatternForm::Integer(more)) => value == more,
-        (ResolvedPatternForm::At(number, part), ResolvedPatternForm::At(count, more)) => {
-            number == count && is_same_pattern(part, more, deep)
-        }
-        (
-            ResolvedPatternForm::Compound(head, parts),
-            ResolvedPatternForm::Compound(another, more),
-        ) => { head.equals(another) && all_same_patterns(parts, more, deep) }
-        (ResolvedPatternForm::WithTail(parts, part), ResolvedPatternForm::WithTail(others, more))
-        | (
-            ResolvedPatternForm::Annotated(part, parts),
-            ResolvedPatternForm::Annotated(more, others),
-        ) => { is_same_pattern(part, more, deep) && all_same_patterns(parts, others, deep) }
-        _ => false,
+fn form_number(form: &Form) -> u32 {
+    match form {
+        Form::Id => 0,
+        Form::Fail => 1,
+        Form::Match(_) => 2,
+        Form::Build(_) => 3,
+        Form::Seq(_) => 4,
+        Form::Guard(_) => 5,
+        Form::Test(_) => 6,
+        Form::Scope(_, _) => 7,
+        Form::Param(_) => 8,
+        Form::Call(_, _, _) => 9,
+        Form::Congruence(_, _) => 10,
+        Form::TailCongruence(_, _) => 11,
+        Form::All(_) => 12,
+        Form::One(_) => 13,
+        Form::Some(_) => 14,
+        Form::Child(_, _) => 15,
+        Form::Rec(_) => 16,
+        Form::Prim(_, _) => 17,
     }
-}
-
-#[cycle(same_pattern)]
-fn all_same_patterns(
-    patterns: &[ResolvedPattern],
-    others: &[ResolvedPattern],
-    deep: usize,
-) -> bool {
-    let mut same = patterns.len() == others.len();
-    for (pattern, other) in patterns.iter().zip(others) {
-        same = same && is_same_pattern(pattern, other, deep);
-    }
-    same
 }

@@ -3,6 +3,7 @@
 
 mod about;
 mod alternatives;
+mod attempts;
 mod causes;
 mod explain;
 mod failing;
@@ -12,4 +13,4 @@ mod observing;
 mod spending;
 mod telling;
 
-pub use explain::{Ground, explain_run, profile_run, tree_of};
+pub use explain::{Ground, explain_nothing, explain_run, profile_run, tree_of};

@@ -1,8 +1,10 @@
 //! What is kept of a run while it goes: the open calls, where the steps went, and where it failed.
 
 use crate::about::{About, StrategyPlace};
+use crate::attempts::{Attempt, first_tried};
 use crate::causes::Causes;
-use crate::finding::Node;
+use crate::finding::{Part, is_search};
+use crate::matching::{Known, Miss, compare, matched, may_match};
 use hint_text::DEEPEST;
 use prim_core::Meaning;
 use strategy_machine::{Host, Machine, Next, Spot};
@@ -25,7 +27,7 @@ const BOUND: usize = 16;
 /// What is wanted of a run.
 #[derive(Clone, Copy)]
 pub enum Wanted {
-    /// The last failure that nothing caught, and what failed before that.
+    /// The last failure that nothing caught, what failed before that, and the nearest attempt.
     Failure,
     /// The failure in this turn.
     FailureIn(u64),
@@ -35,6 +37,8 @@ pub enum Wanted {
     End,
     /// The steps of each definition.
     Steps,
+    /// The attempt of a rule of the user that matched most of its left side, but not all of it.
+    Nearest,
 }
 
 /// A call that is open: the definition, by its number, and the strategy that calls it.
@@ -64,7 +68,9 @@ pub struct Stand<'t> {
     pub calls: Vec<Called<'t>>,
     pub spot: Spot,
     pub focus: Term,
-    /// The variables of what was matched or built, from left to right, that were bound.
+    /// Where what it matches first differs from the focus.
+    pub miss: Option<Miss<'t>>,
+    /// The variables of what was built, from left to right, that were bound.
     pub bound: Vec<Bound<'t>>,
     /// Whether the strategy succeeded with the focus, which is no list, for the rest of one.
     pub is_rest: bool,
@@ -91,6 +97,12 @@ pub struct RunRecord<'t> {
     // What was begun last, if it has succeeded since.
     succeeded: Option<Begun<'t>>,
     left: u64,
+    // The number of the library's text, and how many parts of the nearest attempt matched, and how
+    // deep the deepest of these was.
+    library: Option<u32>,
+    most: (usize, usize),
+    /// Where the run stood at the nearest attempt.
+    pub nearest: Option<Stand<'t>>,
     /// The steps of each definition, by its number, and last those of the command.
     pub spent: Vec<u64>,
     /// How often each definition succeeded, by its number, where steps are wanted.
@@ -102,6 +114,8 @@ pub struct RunRecord<'t> {
     pub stand: Option<Stand<'t>>,
     /// The size of the whole term at the end.
     pub size: u64,
+    /// Whether it succeeded, and left the term as it was.
+    pub has_left: bool,
 }
 
 impl<'t> RunRecord<'t> {
@@ -109,7 +123,14 @@ impl<'t> RunRecord<'t> {
     pub fn new(about: About<'t>, wanted: Wanted, steps: u64) -> Result<RunRecord<'t>, NoMemory> {
         let alloc = about.alloc;
         let mut spent = Vec::new(alloc);
-        spent.resize(about.program.definitions().len().saturating_add(1), 0)?;
+        let count = about.modules.program().definitions().len();
+        spent.resize(count.saturating_add(1), 0)?;
+        let mut library = None;
+        for named in about.modules.modules() {
+            if named.name().bytes() == b"library".as_slice() {
+                library = Some(named.text());
+            }
+        }
         Ok(RunRecord {
             successes: Vec::from_slice(alloc, &spent)?,
             about,
@@ -119,11 +140,15 @@ impl<'t> RunRecord<'t> {
             begun: None,
             succeeded: None,
             left: steps,
+            library,
+            most: (0, 0),
+            nearest: None,
             spent,
             recent: Vec::new(alloc),
             causes: Causes::new(alloc),
             stand: None,
             size: 0,
+            has_left: false,
         })
     }
 
@@ -143,7 +168,13 @@ impl<'t> RunRecord<'t> {
                 if let Wanted::Failure = self.wanted {
                     self.causes.begin(strategy, frames, machine.steps)?;
                 }
-                return self.begin(host, machine, strategy, scope);
+                self.begin(host, machine, strategy, scope)?;
+                return match self.wanted {
+                    Wanted::Failure | Wanted::Nearest => {
+                        self.attempt(host, machine, strategy, scope)
+                    }
+                    _ => Ok(()),
+                };
             }
             Next::Done => {
                 self.succeeded = begun.or(self.succeeded);
@@ -172,7 +203,7 @@ impl<'t> RunRecord<'t> {
     fn at_end(&mut self, machine: &Machine<'t>) -> Result<(), NoMemory> {
         let begun = self.begun;
         match self.wanted {
-            Wanted::Failure | Wanted::FailureIn(_) => return Ok(()),
+            Wanted::Failure | Wanted::FailureIn(_) | Wanted::Nearest => return Ok(()),
             Wanted::Steps => return self.charge(begun, machine, machine.steps),
             // the steps that are left didn't suffice for the last turn
             Wanted::Spending => self.charge(begun, machine, 0)?,
@@ -296,6 +327,60 @@ impl<'t> RunRecord<'t> {
         Ok(())
     }
 
+    // ---- attempts
+
+    // Keeps the attempt of a rule that a strategy begins with, if it is the nearest so far: one
+    // whose root matches, and not all of it.
+    fn attempt<M: Meaning>(
+        &mut self,
+        host: &Host<'t, M>,
+        machine: &Machine<'t>,
+        strategy: &'t ResolvedStrategy,
+        scope: usize,
+    ) -> Result<(), NoMemory> {
+        let Some(attempt) = first_tried(host, machine, strategy, scope) else {
+            return Ok(());
+        };
+        let (kind, count) = (machine.part.kind(), machine.part.child_count());
+        if self.library == Some(attempt.rule.text()) || !may_match(attempt.left, kind, count) {
+            return Ok(());
+        }
+        let known = attempt.scope.map(|scope| Known { machine, scope });
+        let alloc = self.about.alloc;
+        let found = compare(alloc, attempt.left, &machine.part.value()?, known)?;
+        if found.miss.is_some()
+            && (found.matched > self.most.0
+                || (found.matched == self.most.0 && found.depth > self.most.1))
+        {
+            self.most = (found.matched, found.depth);
+            self.keep_attempt(machine, attempt, found.miss)?;
+        }
+        Ok(())
+    }
+
+    fn keep_attempt(
+        &mut self,
+        machine: &Machine<'t>,
+        attempt: Attempt<'t>,
+        miss: Option<Miss<'t>>,
+    ) -> Result<(), NoMemory> {
+        let mut calls = Vec::from_slice(self.about.alloc, &self.calls)?;
+        if let Some((definition, from)) = attempt.call
+            && !matches!(calls.last(), Some(last) if last.definition == definition)
+        {
+            calls.push(Called {
+                definition,
+                from,
+                times: 1,
+                depth: machine.frames.len(),
+            })?;
+        }
+        let mut stand = self.stand(machine, attempt.rule, calls, false)?;
+        stand.miss = miss;
+        self.nearest = Some(stand);
+        Ok(())
+    }
+
     // ---- failures
 
     fn fail(&mut self, begun: Option<Begun<'t>>, machine: &Machine<'t>) -> Result<(), NoMemory> {
@@ -308,7 +393,9 @@ impl<'t> RunRecord<'t> {
         };
         let is_wanted = match self.wanted {
             Wanted::Failure => {
-                self.causes.fail(self.turn);
+                if !is_search(last.strategy) {
+                    self.causes.fail(self.turn);
+                }
                 !machine.frames.catches()
             }
             Wanted::FailureIn(turn) => turn == self.turn,
@@ -336,7 +423,23 @@ impl<'t> RunRecord<'t> {
         begun: Begun<'t>,
         is_rest: bool,
     ) -> Result<u64, NoMemory> {
-        let stand = self.stand(machine, begun, is_rest)?;
+        let calls = Vec::from_slice(self.about.alloc, &self.calls)?;
+        let mut stand = self.stand(machine, begun.strategy, calls, is_rest)?;
+        if let Some(
+            StrategyPlace {
+                node: Some(node),
+                ..
+            },
+        ) = stand.place
+        {
+            if let Some(left) = matched(node.part) {
+                let scope = begun.scope;
+                let known = Some(Known { machine, scope });
+                let value = machine.part.value()?;
+                stand.miss = compare(self.about.alloc, left.resolved, &value, known)?.miss;
+            }
+            add_bound(&mut stand.bound, machine, begun.scope, node.part)?;
+        }
         let size = stand.focus.size();
         self.stand = Some(stand);
         Ok(size)
@@ -345,25 +448,21 @@ impl<'t> RunRecord<'t> {
     fn stand(
         &self,
         machine: &Machine<'t>,
-        begun: Begun<'t>,
+        strategy: &'t ResolvedStrategy,
+        calls: Vec<Called<'t>>,
         is_rest: bool,
     ) -> Result<Stand<'t>, NoMemory> {
         let alloc = self.about.alloc;
-        let mut stand = Stand {
-            strategy: begun.strategy,
-            place: self.about.find(&self.calls, begun.strategy),
-            calls: Vec::from_slice(alloc, &self.calls)?,
+        Ok(Stand {
+            strategy,
+            place: self.about.find(&calls, strategy),
+            calls,
             spot: machine.frames.spot(alloc)?,
             focus: machine.part.value()?.to_term(alloc)?,
+            miss: None,
             bound: Vec::new(alloc),
             is_rest,
-        };
-        if let Some(place) = stand.place
-            && let Some(node) = place.node
-        {
-            add_bound(&mut stand.bound, machine, begun.scope, node)?;
-        }
-        Ok(stand)
+        })
     }
 }
 
@@ -422,26 +521,17 @@ fn called_by(strategy: &ResolvedStrategy) -> Option<usize> {
 
 // ---- bindings
 
-// Adds the variables of what the strategy matches, builds or hands to a primitive, where they are
+// Adds the variables of what the strategy builds or hands to a primitive, where they are
 // bound in the scope.
 fn add_bound<'t>(
     bound: &mut Vec<Bound<'t>>,
     machine: &Machine<'_>,
     scope: usize,
-    node: Node<'t>,
+    part: Part<'t>,
 ) -> Result<(), NoMemory> {
-    match (node.resolved.form(), node.named.form()) {
-        (Form::Match(resolved), Named::Match(pattern))
-        | (Form::Build(resolved), Named::Build(pattern)) => {
+    match (part.resolved.form(), part.named.form()) {
+        (Form::Build(resolved), Named::Build(pattern)) => {
             add_variables(bound, machine, scope, resolved, pattern, DEEPEST)?;
-        }
-        (Form::Seq(parts), Named::Seq(names)) => {
-            if let (Form::Match(resolved), Named::Match(pattern)) = (
-                parts.0.form(),
-                names.0.form(),
-            ) {
-                add_variables(bound, machine, scope, resolved, pattern, DEEPEST)?;
-            }
         }
         (Form::Prim(_, resolved_patterns), Named::Prim(_, patterns)) => {
             for (resolved, pattern) in resolved_patterns.iter().zip(patterns) {

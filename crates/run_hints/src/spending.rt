@@ -89,14 +89,14 @@ impl Teller<'_> {
         if !of_library {
             most = numbers.last().copied().unwrap_or(0);
         }
-        for body in self.about.bodies {
-            if let Some(number) = numbers.get(body.number)
-                && *number > most
+        for (definition, number) in numbers.iter().enumerate() {
+            if *number > most
+                && let Some(body) = self.about.body(definition, 0)
                 && body.is_of_library() == of_library
-                && (!is_rule || matched(body.definition.body()).is_some())
+                && (!is_rule || matched(body.whole()).is_some())
             {
                 most = *number;
-                best = body.number;
+                best = definition;
             }
         }
         (most > 0).then_some((best, most))

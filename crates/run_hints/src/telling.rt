@@ -56,7 +56,7 @@ impl Teller<'_> {
     /// in which the run stands.
     pub fn say_calls(&mut self, stand: &Stand<'_>) {
         let module = match stand.place.and_then(|place| place.body) {
-            Some(body) => body.module.name,
+            Some(body) => body.module,
             None => &[],
         };
         let calls = stand.calls.as_slice();
@@ -108,8 +108,8 @@ impl Teller<'_> {
             && !body.is_of_library()
         {
             say!(self.hint; " ({}", Fill::Line(body.line()));
-            if body.module.name != module {
-                say!(self.hint; " of {}", Fill::Quoted(body.module.name));
+            if body.module != module {
+                say!(self.hint; " of {}", Fill::Quoted(body.module));
             }
             end = ")";
         }

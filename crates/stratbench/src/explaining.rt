@@ -170,7 +170,7 @@ impl<M: Meaning, W: Write> Watch<M> for Explaining<'_, W> {
 fn ground_of<M: Meaning>(session: &Session<M>) -> Ground<'_, M> {
     Ground {
         history: session.timeline(),
-        program: session.kept_program(),
+        modules: session.kept_modules(),
         primitives: session.primitives(),
     }
 }

@@ -202,7 +202,7 @@ impl<M: Meaning> Watch<M> for Hints {
         }
         let ground = Ground {
             history: session.timeline(),
-            program: session.kept_program(),
+            modules: session.kept_modules(),
             primitives: session.primitives(),
         };
         let why = explain_run(self.alloc, &ground, &self.script_command(command), refusal);
