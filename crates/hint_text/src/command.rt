@@ -102,6 +102,16 @@ pub fn parts_of(text: &[u8]) -> CommandParts<'_> {
     parts
 }
 
+/// The parts of a command of this word that loads a text under a name: all of its text is that.
+pub fn parts_of_load<'a>(word: &'static str, name: &'a [u8], text: &'a [u8]) -> CommandParts<'a> {
+    CommandParts {
+        text,
+        at: 0,
+        name,
+        ..parts_of(word.as_bytes())
+    }
+}
+
 impl<'a> CommandParts<'a> {
     // Takes the word in the place of an operand from what follows; of an option the word after its
     // own, if that comes next.
@@ -200,8 +210,7 @@ impl Past {
     }
 
     /// What is kept after a command that begins on this line.
-    pub fn after(self, line: u64, command: &[u8], accepted: bool) -> Past {
-        let (command, _rest) = split_keyword(command);
+    pub fn after(self, line: u64, command: Keyword, accepted: bool) -> Past {
         let opens = accepted && matches!(command, Keyword::Begin);
         let closes = accepted && matches!(command, Keyword::Commit | Keyword::Abandon);
         Past {
@@ -216,11 +225,10 @@ impl Past {
     }
 }
 
-/// A command, as it stands in a script.
+/// A command, as it stands in a script; or what loads a file, whose text is then the command's.
 #[derive(Clone, Copy)]
 pub struct ScriptCommand<'a> {
-    /// The file whose text it loads, if it is none of a script. The file then begins on the line
-    /// after the one on which the command begins.
+    /// The file whose text it loads, if it is none of a script.
     pub file: Option<&'a str>,
     /// The line on which it begins, counted from 1.
     pub line: u64,
@@ -230,6 +238,8 @@ pub struct ScriptCommand<'a> {
     pub comments: &'a [u64],
     /// Its bytes; none if it is longer than 65,536.
     pub text: &'a [u8],
+    /// Its parts.
+    pub parts: CommandParts<'a>,
     /// The budget of commands that name none: a number of steps, at least 1.
     pub budget: u32,
     /// Where a command ends.

@@ -1,22 +1,18 @@
-//! What explanations are written with, and what they are written from: sentences, a command's parts
-//! and its place in the script, and the texts of modules.
+//! What explanations are written from: a command's parts and its place in the script, and the modules
+//! with their texts.
 #![tactic(auto)]
 
-mod characters;
 mod command;
-mod hint;
+mod ground;
 mod modules;
 mod numbered;
-mod printing;
 
-pub use characters::{
-    begins_with_mark, character_at, count_characters, first_characters, place_of,
+pub use command::{
+    CommandParts, FORMS, Past, ScriptCommand, has_word, parts_of, parts_of_load, split_word,
 };
-pub use command::{CommandParts, FORMS, Past, ScriptCommand, has_word, parts_of, split_word};
-pub use hint::{Fill, Hint, QUOTED, fill_of};
+pub use ground::Ground;
 pub use modules::{
-    Text, arity_of, declaring, is_sign, module_of, read_module, read_modules, read_strategy,
-    token_of, tokens_of,
+    KnownModule, ModuleTexts, arity_of, bytes_at, declaring, is_sign, module_of, token_of,
+    tokens_of,
 };
 pub use numbered::Numbered;
-pub use printing::DEEPEST;

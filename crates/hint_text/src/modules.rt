@@ -1,190 +1,282 @@
-//! The texts of modules and of a strategy, each read once.
+//! The modules as they are once a command is obeyed. The session keeps what it has read, and only what
+//! it doesn't keep is read here.
 
 use crate::command::CommandParts;
 use script_text::Keyword;
-use session_history::Timeline;
+use session_history::{CheckedTexts, Timeline};
 use std::alloc::Global;
-use strategy_parse::{DefinitionTokens, ParseFault, definition_tokens, parse_module};
-use strategy_syntax::{Definition, Module};
-use strategy_tokens::{Sign, Token, TokensFault, is_mark, read_tokens, token_place};
+use strategy_check::NamedModule;
+use strategy_parse::{ParseFault, bytes_of, parse_module};
+use strategy_syntax::{Constructor, Definition, Module, Place};
+use strategy_tokens::{
+    Sign, Token, TokenPlace, TokensFault, is_mark, read_tokens, token_count, token_place,
+};
 use term_core::{Label, Name, NoMemory};
-use text_faults::{Role, roles_in_definition, roles_in_strategy};
 
-/// The text of a module, or the strategy of a command, and what was read in it.
-#[derive(Drop)]
-pub struct Text<'a> {
-    /// The name of the module.
-    pub name: &'a [u8],
+/// A module with its text.
+#[derive(Clone, Copy)]
+pub struct KnownModule<'a> {
+    pub module: &'a NamedModule,
     pub text: &'a [u8],
-    /// Whether it is the text of the command.
+    /// Whether it is the one that the command loads.
     pub is_new: bool,
-    pub tokens: Vec<Token>,
-    /// The tokens of each definition, or all of a strategy.
-    pub definitions: Vec<DefinitionTokens>,
-    /// What each token is used for, by its number. Outside definitions this says nothing.
-    pub roles: Vec<Role>,
-    /// The module; an empty one if the text is none.
-    pub module: Module,
 }
 
-/// Adds the modules of the history, in the order of their names, as they are once the command is
-/// obeyed. Of those that were there before the tokens are read where they are wanted.
-pub fn read_modules<'a>(
-    texts: &mut Vec<Text<'a>>,
-    history: &'a Timeline,
-    names: &'a [Label],
-    parts: &CommandParts<'a>,
-    with_tokens: bool,
-) -> Result<(), NoMemory> {
-    let alloc = *texts.allocator();
-    let changes = matches!(parts.command, Keyword::Module | Keyword::Unload);
-    let mut place = 0;
-    for name in names {
-        if !changes || name.bytes() != parts.name {
-            let read = read_module(alloc, history, name, with_tokens)?;
-            texts.push(read)?;
-            if name.bytes() < parts.name {
-                place = texts.len();
+impl<'a> KnownModule<'a> {
+    /// Its name.
+    pub fn name(&self) -> &'a [u8] {
+        self.module.name().bytes()
+    }
+
+    /// Its definitions.
+    pub fn definitions(&self) -> &'a [Definition] {
+        self.module.module().definitions()
+    }
+}
+
+/// The modules as they are once a command is obeyed: the first of those that the session keeps, those
+/// that were read here, and the last of those that it keeps, in the order of their names. Together they
+/// are all modules.
+#[derive(Drop)]
+pub struct ModuleTexts<'a> {
+    before: &'a [NamedModule],
+    before_texts: usize,
+    read: Vec<NamedModule>,
+    texts: Vec<&'a [u8]>,
+    after: &'a [NamedModule],
+    after_texts: usize,
+    kept: Option<&'a CheckedTexts>,
+}
+
+impl<'a> ModuleTexts<'a> {
+    /// Those of the history as they are once the command is obeyed, or after it, if it was accepted. A
+    /// text that is no module is left out.
+    ///
+    /// Errors: `NoMemory` if memory can't grow.
+    pub fn read(
+        alloc: Global,
+        history: &'a Timeline,
+        kept: Option<&'a CheckedTexts>,
+        parts: &CommandParts<'a>,
+        is_accepted: bool,
+    ) -> Result<ModuleTexts<'a>, NoMemory> {
+        let names = history.module_names()?;
+        let mut texts = ModuleTexts {
+            before: &[],
+            before_texts: 0,
+            read: Vec::new(alloc),
+            texts: Vec::new(alloc),
+            after: &[],
+            after_texts: 0,
+            kept,
+        };
+        match kept {
+            Some(kept) if are_kept(history, kept, &names, parts) => {
+                texts.take_kept(kept, parts, is_accepted)?;
             }
+            _ => texts.read_all(history, &names, parts)?,
         }
+        Ok(texts)
     }
-    if parts.is_module() {
-        let new = Text::new(alloc, parts.name, parts.text, true).read(alloc, true)?;
-        let place = place.min(texts.len());
-        texts.insert(place, new)?;
+
+    /// The modules that the session keeps and that come before those that were read.
+    pub fn before(&self) -> &'a [NamedModule] {
+        self.before
     }
-    Ok(())
-}
 
-/// Reads a module of the history.
-pub fn read_module<'a>(
-    alloc: Global,
-    history: &'a Timeline,
-    name: &'a Label,
-    with_tokens: bool,
-) -> Result<Text<'a>, NoMemory> {
-    let text = history.module_text(name).unwrap_or(&[]);
-    Text::new(alloc, name.bytes(), text, false).read(alloc, with_tokens)
-}
+    /// The modules that were read.
+    pub fn new_ones(&self) -> &[NamedModule] {
+        &self.read
+    }
 
-/// Reads the strategy of a command.
-pub fn read_strategy(alloc: Global, text: &[u8]) -> Result<Text<'_>, NoMemory> {
-    let mut read = Text::new(alloc, &[], text, true);
-    read.read_strategy(alloc)?;
-    Ok(read)
-}
+    /// The modules that the session keeps and that come after those that were read.
+    pub fn after(&self) -> &'a [NamedModule] {
+        self.after
+    }
 
-impl<'a> Text<'a> {
-    // One in which nothing was read.
-    fn new(alloc: Global, name: &'a [u8], text: &'a [u8], is_new: bool) -> Text<'a> {
-        Text {
-            name,
-            text,
-            is_new,
-            tokens: Vec::new(alloc),
-            definitions: Vec::new(alloc),
-            roles: Vec::new(alloc),
-            module: Module::new(Vec::new(alloc), Vec::new(alloc)),
+    /// All of them with their texts.
+    pub fn all<'s>(
+        &'s self,
+        alloc: Global,
+        parts: &CommandParts<'s>,
+    ) -> Result<Vec<KnownModule<'s>>, NoMemory> {
+        let mut known = Vec::new(alloc);
+        self.push_kept(&mut known, self.before, self.before_texts, parts)?;
+        for (module, text) in self.read.iter().zip(&self.texts) {
+            push(&mut known, module, text, parts)?;
         }
+        self.push_kept(&mut known, self.after, self.after_texts, parts)?;
+        Ok(known)
     }
 
-    // Reads it as a module, its tokens where they are wanted.
-    fn read(mut self, alloc: Global, with_tokens: bool) -> Result<Text<'a>, NoMemory> {
-        self.read_module(alloc, with_tokens)?;
-        Ok(self)
-    }
-
-    fn read_module(&mut self, alloc: Global, with_tokens: bool) -> Result<(), NoMemory> {
-        self.module = module_of(alloc, self.text)?;
-        if with_tokens {
-            self.tokens = tokens_of(alloc, self.text)?;
-            match definition_tokens(alloc, self.text) {
-                Ok(definitions) => self.definitions = definitions,
-                Err(_) => return Err(NoMemory),
-            }
-            self.roles = roles_of(alloc, &self.tokens, &self.definitions)?;
-        }
-        Ok(())
-    }
-
-    fn read_strategy(&mut self, alloc: Global) -> Result<(), NoMemory> {
-        self.tokens = tokens_of(alloc, self.text)?;
-        let end = self.tokens.len();
-        self.definitions.push(DefinitionTokens { first: 0, end })?;
-        self.roles = roles_in_strategy(alloc, &self.tokens)?;
-        Ok(())
-    }
-
-    /// What the token of this number is used for.
-    pub fn role(&self, number: usize) -> Option<Role> {
-        self.roles.get(number).copied()
-    }
-
-    /// Whether the token of this number is this name.
-    pub fn is_name(&self, number: usize, name: &Name) -> bool {
-        match self.tokens.get(number) {
-            Some(Token::Ident(found)) => found.equals(name),
-            _ => false,
-        }
-    }
-
-    /// Whether the token of this number is part of a pattern.
-    pub fn is_in_pattern(&self, number: usize) -> bool {
-        matches!(self.role(number), Some(Role::Matched | Role::Built))
-    }
-
-    /// The variable that the token of this number is, in a pattern.
-    pub fn variable_at(&self, number: usize) -> Option<&Name> {
-        match self.tokens.get(number) {
-            Some(Token::Ident(name))
-                if self.is_in_pattern(number)
-                    && !is_sign(&self.tokens, number.saturating_add(1), Sign::OpenRound) => {
-                Some(name)
-            }
-            _ => None,
-        }
-    }
-
-    /// Whether the name is a variable among the tokens from one number to another.
-    pub fn has_variable(&self, name: &Name, first: usize, end: usize) -> bool {
-        for number in first..end {
-            if let Some(found) = self.variable_at(number)
-                && found.equals(name)
+    fn push_kept<'s>(
+        &'s self,
+        known: &mut Vec<KnownModule<'s>>,
+        modules: &'s [NamedModule],
+        first: usize,
+        parts: &CommandParts<'s>,
+    ) -> Result<(), NoMemory> {
+        for (number, module) in modules.iter().enumerate() {
+            if let Some(kept) = self.kept
+                && let Some(text) = kept.text(first.saturating_add(number))
             {
-                return true;
+                push(known, module, text, parts)?;
             }
         }
-        false
+        Ok(())
     }
+
+    // Takes all that are kept, but for the module of a command that was refused, which is read.
+    fn take_kept(
+        &mut self,
+        kept: &'a CheckedTexts,
+        parts: &CommandParts<'a>,
+        is_accepted: bool,
+    ) -> Result<(), NoMemory> {
+        let modules = kept.modules();
+        if is_accepted || !changes(parts) {
+            self.before = modules;
+            return Ok(());
+        }
+        let at = modules
+            .iter()
+            .position(|it| parts.name <= it.name().bytes())
+            .unwrap_or(modules.len());
+        let is_there = modules
+            .get(at)
+            .is_some_and(|it| it.name().bytes() == parts.name);
+        let end = if is_there { at.saturating_add(1) } else { at };
+        self.before = modules.get(..at).unwrap_or(&[]);
+        self.after = modules.get(end..).unwrap_or(&[]);
+        self.after_texts = end;
+        self.read_command(parts)
+    }
+
+    // Reads all, the module of the command in its place.
+    fn read_all(
+        &mut self,
+        history: &'a Timeline,
+        names: &[Label],
+        parts: &CommandParts<'a>,
+    ) -> Result<(), NoMemory> {
+        let mut is_read = false;
+        for name in names {
+            if parts.is_module() && !is_read && parts.name <= name.bytes() {
+                self.read_command(parts)?;
+                is_read = true;
+            }
+            if let Some(text) = history.module_text(name)
+                && !is_replaced(parts, name)
+            {
+                self.push_read(name, text)?;
+            }
+        }
+        if is_read {
+            return Ok(());
+        }
+        self.read_command(parts)
+    }
+
+    fn read_command(&mut self, parts: &CommandParts<'a>) -> Result<(), NoMemory> {
+        if parts.is_module()
+            && let Ok(name) = Label::read(*self.texts.allocator(), parts.name)
+        {
+            return self.push_read(&name, parts.text);
+        }
+        Ok(())
+    }
+
+    fn push_read(&mut self, name: &Label, text: &'a [u8]) -> Result<(), NoMemory> {
+        let alloc = *self.texts.allocator();
+        match parse_module(alloc, text) {
+            Ok(module) => {
+                let module = NamedModule::new(alloc, name.try_clone()?, module)?;
+                self.read.push(module)?;
+                Ok(self.texts.push(text)?)
+            }
+            Err(ParseFault::Memory) => Err(NoMemory),
+            Err(_) => Ok(()),
+        }
+    }
+}
+
+fn push<'s>(
+    known: &mut Vec<KnownModule<'s>>,
+    module: &'s NamedModule,
+    text: &'s [u8],
+    parts: &CommandParts<'s>,
+) -> Result<(), NoMemory> {
+    // The text of a file is kept with other blanks, in which the same tokens stand.
+    let is_new = parts.is_module() && module.name().bytes() == parts.name;
+    Ok(known.push(KnownModule {
+        module,
+        text: if is_new { parts.text } else { text },
+        is_new,
+    })?)
+}
+
+// Whether the modules that are kept are those of the history, but for the one of the command.
+fn are_kept(
+    history: &Timeline,
+    kept: &CheckedTexts,
+    names: &[Label],
+    parts: &CommandParts<'_>,
+) -> bool {
+    let mut number = 0usize;
+    let modules = kept.modules();
+    for name in names {
+        if is_replaced(parts, name) {
+            continue;
+        }
+        if modules
+            .get(number)
+            .is_some_and(|it| is_replaced(parts, it.name()))
+        {
+            number = number.saturating_add(1);
+        }
+        let is_same = match (modules.get(number), kept.text(number)) {
+            (Some(module), Some(text)) => {
+                module.name().bytes() == name.bytes() && history.module_text(name) == Some(text)
+            }
+            _ => false,
+        };
+        if !is_same {
+            return false;
+        }
+        number = number.saturating_add(1);
+    }
+    modules
+        .get(number..)
+        .unwrap_or(&[])
+        .iter()
+        .all(|it| is_replaced(parts, it.name()))
+}
+
+// Whether the command loads or removes a module.
+fn changes(parts: &CommandParts<'_>) -> bool {
+    matches!(parts.command, Keyword::Module | Keyword::Unload)
+}
+
+// Whether it is the module of this name.
+fn is_replaced(parts: &CommandParts<'_>, name: &Label) -> bool {
+    changes(parts) && name.bytes() == parts.name
 }
 
 /// The first of the modules that declares a constructor of this name with so many arguments.
-pub fn declaring<'m, 't>(modules: &'m [Text<'t>], name: &Name, arity: u64) -> Option<&'m Text<'t>> {
+pub fn declaring<'a>(
+    modules: &[KnownModule<'a>],
+    name: &Name,
+    arity: u64,
+) -> Option<KnownModule<'a>> {
     for module in modules {
-        for placed in module.module.constructors() {
-            let constructor = placed.item();
-            if constructor.name().equals(name) && constructor.arity() as u64 == arity {
-                return Some(module);
+        for placed in module.module.module().constructors() {
+            let constructor: &Constructor = placed.item();
+            if constructor.arity() as u64 == arity && constructor.name().equals(name) {
+                return Some(*module);
             }
         }
     }
     None
-}
-
-fn roles_of(
-    alloc: Global,
-    tokens: &[Token],
-    definitions: &[DefinitionTokens],
-) -> Result<Vec<Role>, NoMemory> {
-    let mut roles = Vec::new(alloc);
-    for place in definitions {
-        for _ in roles.len()..place.first {
-            roles.push(Role::Definition)?;
-        }
-        let inside = tokens.get(place.first..place.end).unwrap_or(&[]);
-        roles.extend_from_slice(&roles_in_definition(alloc, inside)?)?;
-    }
-    Ok(roles)
 }
 
 /// The module that the text is; an empty one if it is none.
@@ -222,4 +314,11 @@ pub fn token_of(text: &[u8], number: usize) -> (&[u8], usize) {
 /// Whether the token of this number is this sign.
 pub fn is_sign(tokens: &[Token], number: usize, sign: Sign) -> bool {
     tokens.get(number).is_some_and(|token| is_mark(token, sign))
+}
+
+/// The bytes of a text in which something stands that knows its place; `None` if it stands in no text
+/// or in another one.
+pub fn bytes_at(text: &[u8], place: Place) -> Option<TokenPlace> {
+    let range = place.tokens(token_count(text) as usize)?;
+    bytes_of(text, range.first, range.end)
 }

@@ -1,6 +1,6 @@
 //! Short texts of patterns and strategies.
 
-use crate::hint::Hint;
+use crate::diagnostic::Diagnostic;
 use strategy_syntax::{Head, Pattern, PatternForm, Strategy, StrategyForm};
 
 /// How deep patterns and strategies are followed. A text has no more tokens.
@@ -8,7 +8,7 @@ pub const DEEPEST: usize = 4_000;
 
 /// Appends the text of a pattern.
 #[cycle(pattern)]
-pub fn add_pattern(text: &mut Hint, pattern: &Pattern, deep: usize) {
+pub fn add_pattern(text: &mut Diagnostic, pattern: &Pattern, deep: usize) {
     let Some(deep) = deep.checked_sub(1) else {
         return;
     };
@@ -43,7 +43,7 @@ pub fn add_pattern(text: &mut Hint, pattern: &Pattern, deep: usize) {
 }
 
 #[cycle(pattern)]
-fn add_patterns(text: &mut Hint, patterns: &[Pattern], deep: usize) {
+fn add_patterns(text: &mut Diagnostic, patterns: &[Pattern], deep: usize) {
     let mut is_first = true;
     for pattern in patterns {
         if !is_first {
@@ -54,7 +54,7 @@ fn add_patterns(text: &mut Hint, patterns: &[Pattern], deep: usize) {
     }
 }
 
-fn add_opening(text: &mut Hint, head: &Head, count: usize) {
+fn add_opening(text: &mut Diagnostic, head: &Head, count: usize) {
     match head {
         Head::Application(name) => {
             text.name(name);
@@ -79,7 +79,7 @@ fn closing(head: &Head, count: usize) -> &'static str {
 
 /// Appends the front of the text of a strategy, with `..` for what follows, and for what is in
 /// brackets.
-pub fn add_strategy(text: &mut Hint, strategy: &Strategy, deep: usize) {
+pub fn add_strategy(text: &mut Diagnostic, strategy: &Strategy, deep: usize) {
     let Some(deep) = deep.checked_sub(1) else {
         return;
     };

@@ -1,5 +1,5 @@
 use Rattle.std.proofs.Common.{◌+◌, ◌*◌}
-use Rattle.hint_text.proofs.printing.+pattern.Given as goal
+use Rattle.diagnostic.proofs.printing.+pattern.Given as goal
 
 abbrev pub decreases-add_pattern : goal.decreases-add_pattern
 decreases-add_pattern l = 2 * l.deep
