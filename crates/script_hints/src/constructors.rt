@@ -1,12 +1,12 @@
 //! Constructors of an accepted term that no module declares, but nearly.
 
 use crate::explainer::Explainer;
-use crate::faults::arguments_of;
 use crate::names::distance;
-use hint_text::{Fill, Text, say, token_of, tokens_of};
+use diagnostic::{Fill, Report, say};
+use hint_text::{KnownModule, token_of, tokens_of};
 use std::alloc::Global;
 use strategy_syntax::Constructor;
-use strategy_tokens::Token;
+use strategy_tokens::{Sign, Token, TokenPlace, is_mark};
 use term_core::{Name, NoMemory};
 
 // The most constructors that are warned of, and the fewest bytes of a name that another is taken
@@ -15,18 +15,22 @@ const WARNED: u64 = 4;
 
 const LONG: usize = 4;
 
-impl Explainer<'_, '_, '_> {
+impl Explainer<'_, '_> {
     /// Warns of the constructors of a term that no module declares, where one declares it with
     /// another number of terms, or one whose name is a byte away. Of a term of more than 4,000
     /// tokens nothing is said.
-    pub fn warn_of_constructors(&mut self) -> Result<(), NoMemory> {
+    pub fn warn_of_constructors<R: Report>(&mut self, report: &mut R) -> Result<(), NoMemory> {
         let tokens = tokens_of(self.alloc, self.parts.text)?;
-        let warned = self.warn_of_tokens(&tokens);
+        let warned = self.warn_of_tokens(&tokens, report);
         drop(tokens);
         warned
     }
 
-    fn warn_of_tokens(&mut self, tokens: &[Token]) -> Result<(), NoMemory> {
+    fn warn_of_tokens<R: Report>(
+        &mut self,
+        tokens: &[Token],
+        report: &mut R,
+    ) -> Result<(), NoMemory> {
         let mut warned = 0u64;
         for (number, token) in tokens.iter().enumerate() {
             if let Token::Ident(name) = token
@@ -39,6 +43,7 @@ impl Explainer<'_, '_, '_> {
                     && self.is_apart(number)
                 {
                     self.warn_of_constructor(number, terms, near, near.name().equals(name));
+                    report.report(&self.hint);
                     warned = warned.saturating_add(1);
                 }
             }
@@ -57,7 +62,10 @@ impl Explainer<'_, '_, '_> {
     // Warns of the token of this number, with so many terms: there is a constructor of the same
     // name, or of a near one.
     fn warn_of_constructor(&mut self, number: usize, terms: u64, near: &Constructor, same: bool) {
-        self.begin_warning(None, number);
+        let (bytes, start) = token_of(self.parts.text, number);
+        let end = start.saturating_add(bytes.len());
+        let word = if same { "arity" } else { "undeclared" };
+        self.begin_warning(word, None, TokenPlace { start, end });
         let (name, terms) = (
             Fill::Quoted(near.name().bytes()),
             Fill::Count(terms, "term"),
@@ -73,7 +81,7 @@ impl Explainer<'_, '_, '_> {
 
 // The number of terms of the constructor that these tokens begin with.
 fn terms_of(tokens: &[Token]) -> u64 {
-    arguments_of(tokens.get(1..).unwrap_or(&[])).0
+    arguments_of(tokens.get(1..).unwrap_or(&[]))
 }
 
 fn joins(byte: Option<&u8>) -> bool {
@@ -97,13 +105,13 @@ fn has_use(tokens: &[Token], name: &Name, terms: u64) -> bool {
 // many terms whose name is a byte away.
 fn near_constructor<'m>(
     alloc: Global,
-    modules: &'m [Text<'_>],
+    modules: &'m [KnownModule<'m>],
     name: &Name,
     terms: u64,
 ) -> Result<Option<&'m Constructor>, NoMemory> {
     let mut near = None;
     for module in modules {
-        for placed in module.module.constructors() {
+        for placed in module.module.module().constructors() {
             let constructor = placed.item();
             let is_same = constructor.name().equals(name);
             let has_terms = constructor.arity() as u64 == terms;
@@ -126,4 +134,35 @@ fn is_near(alloc: Global, name: &[u8], other: &[u8]) -> Result<bool, NoMemory> {
         return Ok(false);
     }
     Ok(distance(alloc, name, other)? == 1)
+}
+
+// The number of terms in the brackets that come next, if any do. A term begins with a token after `(`
+// or `,`.
+fn arguments_of(after: &[Token]) -> u64 {
+    let mut terms = 0u64;
+    let (mut depth, mut begins) = (0u64, false);
+    for token in after {
+        let next = depth_after(depth, token);
+        if begins && next >= depth {
+            terms = terms.saturating_add(1);
+        }
+        begins = next == 1 && (next > depth || is_mark(token, Sign::Comma));
+        depth = next;
+        if depth == 0 {
+            break;
+        }
+    }
+    terms
+}
+
+// How many brackets are open after the token, where so many are before. The first one is round.
+fn depth_after(depth: u64, token: &Token) -> u64 {
+    match token {
+        Token::Sign(Sign::OpenRound) => depth.saturating_add(1),
+        Token::Sign(Sign::OpenSquare | Sign::OpenCurly) if depth > 0 => depth.saturating_add(1),
+        Token::Sign(Sign::CloseRound | Sign::CloseSquare | Sign::CloseCurly) => {
+            depth.saturating_sub(1)
+        }
+        _ => depth,
+    }
 }

@@ -1,98 +1,129 @@
 //! What is said of a refused command.
 
 use crate::faults::fault_of;
-use hint_text::{
-    CommandParts, Fill, Hint, ScriptCommand, Text, count_characters, parts_of, place_of,
-    read_modules, say, token_of,
+use diagnostic::{
+    Code, Diagnostic, Fill, Origin, Severity, Source, Span, Spot, count_characters, place_of, say,
 };
+use hint_text::{
+    CommandParts, Ground, KnownModule, ModuleTexts, ScriptCommand, bytes_at, token_of,
+};
+use prim_core::Meaning;
 use session_history::{Limits, Refusal, Timeline};
 use std::alloc::Global;
-use term_core::{Label, NoMemory};
+use strategy_parse::{ParseFault, parse_strategy};
+use strategy_syntax::{Place, Strategy};
+use strategy_tokens::TokenPlace;
+use term_core::NoMemory;
 
 /// What is said so far of a command, and what it is said from.
 #[derive(Drop)]
-pub struct Explainer<'a, 'm, 't> {
+pub struct Explainer<'a, 'm> {
     pub alloc: Global,
-    pub hint: Hint,
+    pub hint: Diagnostic,
     pub command: ScriptCommand<'a>,
     pub parts: CommandParts<'a>,
     /// The modules, in the order of their names, where the explanation needs them.
-    pub modules: &'m [Text<'t>],
+    pub modules: &'m [KnownModule<'m>],
     /// Those of the session.
     pub limits: Limits,
+    /// The name in the text of the command that another may be meant by.
+    pub wrong: Option<Span>,
 }
 
-/// One to four lines on why the command was refused, without a line feed at the end. The history is
-/// that of the session that refused it.
+/// Why the command was refused. The ground is that of the session that refused it.
 ///
 /// Errors: `NoMemory` if memory can't grow.
-pub fn explain<'a>(
+pub fn explain<M: Meaning>(
     alloc: Global,
-    history: &'a Timeline,
-    command: &ScriptCommand<'a>,
+    ground: &Ground<'_, M>,
+    command: &ScriptCommand<'_>,
     refusal: &Refusal,
-) -> Result<Vec<u8>, NoMemory> {
-    let names = history.module_names()?;
-    let is_check = matches!(refusal, Refusal::Check(..));
-    let modules = if is_check || matches!(refusal, Refusal::Fails) {
-        modules_of(alloc, history, &names, &parts_of(command.text), is_check)?
-    } else {
-        Vec::new(alloc)
-    };
-    let mut explainer = Explainer::new(alloc, command, &modules, history.limits());
-    let explained = explainer.explain_refusal(history, refusal);
-    explainer.hint.keep(explained);
-    explainer.hint.into_text()
+) -> Result<Diagnostic, NoMemory> {
+    if !matches!(refusal, Refusal::Check(..) | Refusal::Fails) {
+        return explain_with(alloc, ground, command, refusal, None);
+    }
+    match ModuleTexts::read(alloc, ground.history, ground.kept, &command.parts, false) {
+        Ok(texts) => explain_with(alloc, ground, command, refusal, Some(&texts)),
+        Err(NoMemory) => Err(NoMemory),
+    }
 }
 
-/// The modules as they are once the command is obeyed, with the tokens of all if they are wanted.
-pub fn modules_of<'a>(
+fn explain_with<M: Meaning>(
     alloc: Global,
-    history: &'a Timeline,
-    names: &'a [Label],
-    parts: &CommandParts<'a>,
-    with_tokens: bool,
-) -> Result<Vec<Text<'a>>, NoMemory> {
-    let mut modules = Vec::new(alloc);
-    read_modules(&mut modules, history, names, parts, with_tokens)?;
-    Ok(modules)
+    ground: &Ground<'_, M>,
+    command: &ScriptCommand<'_>,
+    refusal: &Refusal,
+    texts: Option<&ModuleTexts<'_>>,
+) -> Result<Diagnostic, NoMemory> {
+    let modules = match texts {
+        Some(texts) => texts.all(alloc, &command.parts)?,
+        None => Vec::new(alloc),
+    };
+    let code = Code {
+        number: refusal.number(),
+        word: match fault_of(refusal) {
+            Some(fault) => fault.kind.word(),
+            None => refusal.word(),
+        },
+    };
+    let hint = Diagnostic::new(alloc, Severity::Refusal, code, origin_of(command));
+    let limits = ground.history.limits();
+    let mut explainer = Explainer::new(alloc, hint, command, &modules, limits);
+    let explained = explainer.explain_refusal(ground, refusal, texts);
+    explainer.hint.keep(explained);
+    Ok(explainer.hint)
 }
 
-impl<'a, 'm, 't> Explainer<'a, 'm, 't> {
-    /// One that has said nothing yet.
+/// Where a command stands.
+pub fn origin_of<'a>(command: &ScriptCommand<'a>) -> Origin<'a> {
+    match command.file {
+        Some(file) => Origin::File(file),
+        None => Origin::Line(command.line),
+    }
+}
+
+impl<'a, 'm> Explainer<'a, 'm> {
+    /// One that has said this of the command.
     pub fn new(
         alloc: Global,
+        hint: Diagnostic,
         command: &ScriptCommand<'a>,
-        modules: &'m [Text<'t>],
+        modules: &'m [KnownModule<'m>],
         limits: Limits,
-    ) -> Explainer<'a, 'm, 't> {
+    ) -> Explainer<'a, 'm> {
         Explainer {
             alloc,
-            hint: Hint::new(alloc),
+            hint,
             command: *command,
-            parts: parts_of(command.text),
+            parts: command.parts,
             modules,
             limits,
+            wrong: None,
         }
     }
 
-    // `line 12: refused 10 syntax`; a fault of the checker follows with its name and numbers.
+    // `refused 10 syntax`; a fault of the checker follows with its name and numbers.
     fn say_refusal(&mut self, refusal: &Refusal) {
         let number = Fill::Number(u64::from(refusal.number()));
-        say!(self.hint; "{}: refused {} ", self.source(), number);
-        if let Some(fault) = fault_of(refusal) {
-            let (kind, name) = (Fill::Words(fault.kind.word()), Fill::Name(fault.name));
-            say!(self.hint; "{} {} {} {}", kind, name, Fill::Number(fault.strategies), Fill::Number(fault.terms));
-        } else {
-            self.hint.words(refusal.word());
+        say!(self.hint; "refused {} ", number);
+        match fault_of(refusal) {
+            Some(fault) => self.say_fault_itself(fault),
+            None => self.hint.words(refusal.word()),
         }
+        self.hint.end_answer();
     }
 
-    fn explain_refusal(&mut self, history: &Timeline, refusal: &Refusal) -> Result<(), NoMemory> {
+    fn explain_refusal<M: Meaning>(
+        &mut self,
+        ground: &Ground<'_, M>,
+        refusal: &Refusal,
+        texts: Option<&ModuleTexts<'_>>,
+    ) -> Result<(), NoMemory> {
         self.say_refusal(refusal);
         if let Some(fault) = fault_of(refusal) {
-            return self.explain_check(fault);
+            return self.explain_check(ground, fault, texts);
         }
+        let history = ground.history;
         match refusal {
             Refusal::Line => self.explain_line(),
             Refusal::NoTree => self.explain_missing(history, "tree"),
@@ -109,18 +140,19 @@ impl<'a, 'm, 't> Explainer<'a, 'm, 't> {
         }
     }
 
-    // ---- places
-
-    /// The line on which the command begins, or the file that it loads.
-    pub fn source(&self) -> Fill<'a> {
-        match self.command.file {
-            Some(file) => Fill::Words(file),
-            None => Fill::Line(self.command.line),
+    /// The strategy of the command; none if its text is no strategy.
+    pub fn strategy(&self) -> Result<Option<Strategy>, NoMemory> {
+        match parse_strategy(self.alloc, self.parts.text) {
+            Ok(strategy) => Ok(Some(strategy)),
+            Err(ParseFault::Memory) => Err(NoMemory),
+            Err(_) => Ok(None),
         }
     }
 
-    /// The place in the script after so many bytes of the text of the command.
-    pub fn at(&self, start: usize) -> Fill<'a> {
+    // ---- places
+
+    /// The place of these bytes of the text of the command, as it stands in the script.
+    pub fn spot(&self, start: usize, end: usize) -> Spot<'a> {
         let command = &self.command;
         // The text is without the blanks before the command and the comments within it.
         let place = place_of(
@@ -138,18 +170,54 @@ impl<'a, 'm, 't> Explainer<'a, 'm, 't> {
                 line = line.saturating_add(1);
             }
         }
-        Fill::At(line, column)
+        Spot {
+            source: Source::Command,
+            span: Span::within(self.parts.text, start, end),
+            line,
+            column,
+        }
+    }
+
+    /// The place of what stands at these bytes, in a sentence.
+    pub fn at(&self, place: TokenPlace) -> Fill<'a> {
+        Fill::At(self.spot(place.start, place.end))
+    }
+
+    /// The place of the character after so many bytes of the text of the command, in a sentence.
+    pub fn at_byte(&self, start: usize) -> Fill<'a> {
+        Fill::At(self.spot(start, start.saturating_add(1)))
+    }
+
+    /// The bytes of the text of the command at a place of it; all of it if that isn't known.
+    pub fn bytes_of(&self, place: Place) -> TokenPlace {
+        match bytes_at(self.parts.text, place) {
+            Some(bytes) => bytes,
+            None => TokenPlace {
+                start: 0,
+                end: self.parts.text.len(),
+            },
+        }
+    }
+
+    /// The bytes of the text of the command at a place of it, in a sentence, and that place.
+    pub fn quoted_at(&self, place: TokenPlace) -> (Fill<'a>, Fill<'a>) {
+        let bytes = self.parts.text.get(place.start..place.end);
+        (Fill::Quoted(bytes.unwrap_or(&[])), self.at(place))
     }
 
     /// The token of this number of the text of the command, the number of bytes before it, and its
     /// place.
     pub fn token(&self, number: usize) -> (Fill<'a>, usize, Fill<'a>) {
         let (bytes, start) = token_of(self.parts.text, number);
-        (Fill::Quoted(bytes), start, self.at(start))
+        let end = start.saturating_add(bytes.len());
+        (
+            Fill::Quoted(bytes),
+            start,
+            self.at(TokenPlace { start, end }),
+        )
     }
 
-    /// Appends the line of the place after so many bytes of the text of the command, and a `^`
-    /// below it.
+    /// Adds the line of the place after so many bytes of the text of the command, and a `^` below it.
     pub fn show(&mut self, start: usize) {
         let (text, at) = (self.command.text, self.parts.at.saturating_add(start));
         self.hint.show(text, at);
@@ -157,7 +225,15 @@ impl<'a, 'm, 't> Explainer<'a, 'm, 't> {
 
     /// Appends a sentence with that place in it, and shows the place.
     pub fn say_at(&mut self, sentence: &str, start: usize) {
-        say!(self.hint; sentence, self.at(start));
+        say!(self.hint; sentence, self.at_byte(start));
         self.show(start);
+    }
+
+    /// Adds a line with the advice, unless it is empty.
+    pub fn say_advice(&mut self, advice: &str) {
+        if !advice.is_empty() {
+            self.hint.help();
+            self.hint.words(advice);
+        }
     }
 }

@@ -1,22 +1,25 @@
-//! Faults that the checker finds in modules and strategies, and names that there are in place of
-//! one that isn't.
+//! Faults that the checker finds in modules and strategies, and names that there are in place of one
+//! that isn't.
 
 use crate::explainer::Explainer;
 use crate::names::Near;
 use crate::strategies::module_defining;
 use crate::stuck::instead_of;
+use diagnostic::{Fill, QUOTED, Span, Spot, first_characters, say};
 use hint_text::{
-    Fill, QUOTED, Text, arity_of, declaring, fill_of, first_characters, is_sign, module_of,
-    read_module, read_strategy, say, token_of,
+    CommandParts, Ground, KnownModule, ModuleTexts, arity_of, bytes_at, declaring, module_of,
+    parts_of,
 };
-use session_history::{Refusal, Timeline};
+use prim_core::Meaning;
+use session_history::Refusal;
 use std::alloc::Global;
-use strategy_check::FaultKind;
-use strategy_parse::DefinitionTokens;
-use strategy_syntax::Module;
-use strategy_tokens::{Keyword, Sign, Token, is_mark, is_word};
+use strategy_check::{FaultKind, FoundFault, all_faults, all_strategy_faults};
+use strategy_syntax::{Definition, Module, Place};
+use strategy_tokens::TokenPlace;
 use term_core::{Label, Name, NoMemory};
-use text_faults::Role;
+
+// The most faults that are listed.
+const LISTED: usize = 20;
 
 /// A fault: its kind, the name, and numbers of strategies and of terms.
 #[derive(Clone, Copy)]
@@ -40,133 +43,309 @@ pub fn fault_of(refusal: &Refusal) -> Option<Fault<'_>> {
     }
 }
 
-// A module with a fault, and the numbers of the first token that has it and of the first one of its
-// definition.
+// A definition with a fault.
 #[derive(Clone, Copy)]
-struct Found<'m, 't> {
-    module: &'m Text<'t>,
-    token: usize,
-    definition: usize,
+struct FaultyDefinition<'m> {
+    module: KnownModule<'m>,
+    definition: &'m Definition,
 }
 
-/// Whether the module of this name has the fault that the refusal names.
+fn found(fault: &FoundFault) -> Fault<'_> {
+    Fault {
+        kind: fault.kind(),
+        name: fault.name(),
+        strategies: fault.first(),
+        terms: fault.second(),
+    }
+}
+
+/// The name of the module with the first fault, if one has any.
 ///
 /// Errors: `NoMemory` if memory can't grow.
-pub fn has_fault(
+pub fn faulty_module<M: Meaning>(
     alloc: Global,
-    history: &Timeline,
-    name: &Label,
-    refusal: &Refusal,
-) -> Result<bool, NoMemory> {
-    let Some(fault) = fault_of(refusal) else {
-        return Ok(false);
-    };
-    let module = read_module(alloc, history, name, true)?;
-    let found = find(&module, fault).is_some();
-    drop(module);
-    Ok(found)
+    ground: &Ground<'_, M>,
+) -> Result<Option<Label>, NoMemory> {
+    let parts = parts_of(&[]);
+    match ModuleTexts::read(alloc, ground.history, ground.kept, &parts, false) {
+        Ok(texts) => first_faulty(alloc, ground, &texts, &parts),
+        Err(NoMemory) => Err(NoMemory),
+    }
 }
 
-impl Explainer<'_, '_, '_> {
-    /// Refusal 11: where the fault is, and which names and numbers of arguments there are.
-    pub fn explain_check(&mut self, fault: Fault<'_>) -> Result<(), NoMemory> {
-        let (first, last) = with_fault(self.modules, fault);
-        let is_twice = matches!(fault.kind, FaultKind::Twice);
-        if let Some(token) = self.find_in_strategy(fault)? {
-            self.say_at(": at {}", token_of(self.parts.text, token).1);
-        } else if let Some(found) = if is_twice { last } else { first } {
-            self.say_found(found);
+fn first_faulty<M: Meaning>(
+    alloc: Global,
+    ground: &Ground<'_, M>,
+    texts: &ModuleTexts<'_>,
+    parts: &CommandParts<'_>,
+) -> Result<Option<Label>, NoMemory> {
+    let modules = texts.all(alloc, parts)?;
+    let faults = module_faults(alloc, ground, texts, 1)?;
+    let first = faults.first().and_then(FoundFault::definition);
+    drop(faults);
+    match first.and_then(|it| modules.get(it.module)) {
+        Some(module) => Ok(Some(module.module.name().try_clone()?)),
+        None => Ok(None),
+    }
+}
+
+// At most so many faults of the modules.
+fn module_faults<M: Meaning>(
+    alloc: Global,
+    ground: &Ground<'_, M>,
+    texts: &ModuleTexts<'_>,
+    most: usize,
+) -> Result<Vec<FoundFault>, NoMemory> {
+    all_faults(
+        alloc,
+        texts.before(),
+        texts.new_ones(),
+        texts.after(),
+        ground.primitives,
+        most,
+    )
+}
+
+impl<'m> Explainer<'_, 'm> {
+    /// Appends the word of a fault, its name and its numbers.
+    pub fn say_fault_itself(&mut self, fault: Fault<'_>) {
+        let (kind, name) = (Fill::Words(fault.kind.word()), Fill::Name(fault.name));
+        say!(self.hint; "{} {} {} {}", kind, name, Fill::Number(fault.strategies), Fill::Number(fault.terms));
+    }
+
+    /// Refusal 11: where the faults are, and which names and numbers of arguments there are.
+    pub fn explain_check<M: Meaning>(
+        &mut self,
+        ground: &Ground<'_, M>,
+        fault: Fault<'_>,
+        texts: Option<&ModuleTexts<'_>>,
+    ) -> Result<(), NoMemory> {
+        let in_strategy = self.strategy_faults(ground)?;
+        if let Some(first) = in_strategy.first() {
+            let bytes = self.bytes_of(shown_place(first));
+            say!(self.hint; "at {}", self.at(bytes));
+            self.show(bytes.start);
+            self.note_wrong(fault, bytes.start);
+            self.say_more(fault, None)?;
+            self.say_rest(&in_strategy);
+            drop(in_strategy);
+            return Ok(());
         }
-        let name = Fill::Quoted(fault.name.bytes());
-        match (fault.kind, first) {
-            (FaultKind::Unknown | FaultKind::Undeclared, _) => return self.say_others(fault),
-            (FaultKind::Twice, Some(found)) => {
-                say!(self.hint; "\n    the module {} defines it, too, at ", Fill::Quoted(found.module.name));
-                let _start = self.say_place(found);
+        drop(in_strategy);
+        let in_modules = match texts {
+            Some(texts) => module_faults(self.alloc, ground, texts, LISTED)?,
+            None => Vec::new(self.alloc),
+        };
+        if let Some(first) = in_modules.first()
+            && let Some(definition) = self.definition_of(first)
+        {
+            let cause = self.cause_of(fault, &in_modules);
+            if let Some((other, _)) = cause {
+                let name = other.definition.name().bytes();
+                self.hint.note_cause(other.module.name(), name);
             }
-            (FaultKind::Clash, Some(found)) => self.say_clash(found.module.name, fault),
+            self.say_found(fault, definition, shown_place(first));
+            self.say_more(fault, Some(definition))?;
+            if let Some((other, lost)) = cause {
+                self.say_lost(other, lost);
+            }
+        } else {
+            self.say_more(fault, None)?;
+        }
+        self.say_rest(&in_modules);
+        drop(in_modules);
+        Ok(())
+    }
+
+    // The faults of the strategy of the command, if it has one.
+    fn strategy_faults<M: Meaning>(
+        &self,
+        ground: &Ground<'_, M>,
+    ) -> Result<Vec<FoundFault>, NoMemory> {
+        let (Some(kept), true) = (ground.kept, self.parts.is_strategy()) else {
+            return Ok(Vec::new(self.alloc));
+        };
+        match self.strategy()? {
+            Some(strategy) => all_strategy_faults(
+                self.alloc,
+                kept.program(),
+                ground.primitives,
+                &strategy,
+                LISTED,
+            ),
+            None => Ok(Vec::new(self.alloc)),
+        }
+    }
+
+    // The definition with a fault.
+    fn definition_of(&self, fault: &FoundFault) -> Option<FaultyDefinition<'m>> {
+        let index = fault.definition()?;
+        let module = self.modules.get(index.module)?;
+        Some(FaultyDefinition {
+            module: *module,
+            definition: module.definitions().get(index.definition)?,
+        })
+    }
+
+    // The definition of an unknown name with other numbers of arguments, if a name in its body isn't
+    // known, either: its head may have lost a parameter. And that other fault.
+    fn cause_of<'f>(
+        &self,
+        fault: Fault<'_>,
+        faults: &'f [FoundFault],
+    ) -> Option<(FaultyDefinition<'m>, &'f FoundFault)> {
+        if !matches!(fault.kind, FaultKind::Unknown) {
+            return None;
+        }
+        for other in faults {
+            if matches!(other.kind(), FaultKind::Unknown)
+                && let Some(definition) = self.definition_of(other)
+                && definition.definition.name().equals(fault.name)
+            {
+                return Some((definition, other));
+            }
+        }
+        None
+    }
+
+    // Says that a definition may have lost a parameter.
+    fn say_lost(&mut self, found: FaultyDefinition<'_>, lost: &FoundFault) {
+        let (name, definition) = (lost.name().bytes(), found.definition.name().bytes());
+        self.hint.help();
+        say!(self.hint; "is the parameter {} missing in the head of {}? nothing else has that name", Fill::Quoted(name), Fill::Quoted(definition));
+    }
+
+    // Says which module has the fault, in which definition, and where.
+    fn say_found(&mut self, fault: Fault<'_>, found: FaultyDefinition<'_>, place: Place) {
+        let (module, name) = (found.module, found.definition.name().bytes());
+        let sentence = if self.parts.is_strategy() {
+            "the modules of the open group have this fault, in {} of the module {}, "
+        } else {
+            "in {} of the module {}, "
+        };
+        say!(self.hint; sentence, Fill::Quoted(name), Fill::Quoted(module.name()));
+        self.hint.note_cause(module.name(), name);
+        let start = self.say_place(module, place);
+        if module.is_new {
+            self.show(start);
+            self.note_wrong(fault, start);
+        } else {
+            self.hint.show(module.text, start);
+        }
+    }
+
+    // Notes that the name of the fault is at this place of the text.
+    fn note_wrong(&mut self, fault: Fault<'_>, start: usize) {
+        let end = start.saturating_add(fault.name.bytes().len());
+        self.wrong = Span::within(self.parts.text, start, end);
+    }
+
+    // The place in the script, or in the text of a module that was loaded before. Returns the number
+    // of bytes before it.
+    fn say_place(&mut self, module: KnownModule<'_>, place: Place) -> usize {
+        let bytes = bytes_at(module.text, place).unwrap_or(TokenPlace {
+            start: 0,
+            end: module.text.len(),
+        });
+        if module.is_new {
+            say!(self.hint; "{}", self.at(bytes));
+        } else {
+            let spot = Spot::in_module(module.name(), module.text, bytes.start, bytes.end);
+            say!(self.hint; "{} of its text", Fill::At(spot));
+        }
+        bytes.start
+    }
+
+    // Says of the faults after the first which they are and where.
+    fn say_rest(&mut self, faults: &[FoundFault]) {
+        for fault in faults.iter().skip(1) {
+            self.hint.note();
+            self.hint.words("also ");
+            self.say_fault_itself(found(fault));
+            if let Some(it) = self.definition_of(fault) {
+                let name = Fill::Quoted(it.definition.name().bytes());
+                say!(self.hint; ", in {} of the module {}, ", name, Fill::Quoted(it.module.name()));
+                let _start = self.say_place(it.module, shown_place(fault));
+            } else {
+                let bytes = self.bytes_of(shown_place(fault));
+                say!(self.hint; ", at {}", self.at(bytes));
+            }
+        }
+    }
+
+    // Says what there is instead, or what is in the way. The fault is in this definition, if it isn't
+    // in a strategy.
+    fn say_more(
+        &mut self,
+        fault: Fault<'_>,
+        found: Option<FaultyDefinition<'_>>,
+    ) -> Result<(), NoMemory> {
+        match (fault.kind, found) {
+            (FaultKind::Unknown | FaultKind::Undeclared, _) => return self.say_others(fault),
+            (FaultKind::Twice, Some(it)) => self.say_earlier(it),
+            (FaultKind::Clash, Some(it)) => self.say_clash(it.module.name(), fault),
             (FaultKind::Twice | FaultKind::Clash, None) => {}
             (FaultKind::Wild, _) => self.say_advice("`_` and `x@p` only match; they build nothing"),
-            (FaultKind::Parameter, _) if is_in_list(fault) => self.say_advice(
-                "the name comes twice in one list",
-            ),
+            (FaultKind::Parameter, _) if fault.strategies == 0 && fault.terms == 0 => {
+                self.say_advice("the name comes twice in one list");
+            }
             (FaultKind::Parameter, _) => self.say_advice("a strategy parameter takes no arguments"),
-            (FaultKind::Primitive, _) =>
-                say!(self.hint; "\n    no primitive {} takes {}", name, Fill::Count(fault.strategies, "term")),
+            (FaultKind::Primitive, _) => {
+                self.hint.note();
+                let name = Fill::Quoted(fault.name.bytes());
+                say!(self.hint; "no primitive {} takes {}", name, Fill::Count(fault.strategies, "term"));
+            }
         }
         Ok(())
     }
 
-    // The number of the token with which the strategy of the command has the fault, if it has it.
-    fn find_in_strategy(&self, fault: Fault<'_>) -> Result<Option<usize>, NoMemory> {
-        if !self.parts.is_strategy() {
-            return Ok(None);
+    // Says where an earlier module defines what a definition does.
+    fn say_earlier(&mut self, second: FaultyDefinition<'_>) {
+        for earlier in self.modules {
+            if earlier.name() != second.module.name()
+                && let Some(first) = earlier
+                    .definitions()
+                    .iter()
+                    .find(|it| is_like(it, second.definition))
+            {
+                let earlier = *earlier;
+                self.hint.note();
+                say!(self.hint; "the module {} defines it, too, at ", Fill::Quoted(earlier.name()));
+                let _start = self.say_place(earlier, first.place().token(0));
+                return;
+            }
         }
-        let strategy = read_strategy(self.alloc, self.parts.text)?;
-        let found = find(&strategy, fault).map(|found| found.token);
-        drop(strategy);
-        Ok(found)
-    }
-
-    // Says which module has the fault, in which definition, and where.
-    fn say_found(&mut self, found: Found<'_, '_>) {
-        let text = found.module.text;
-        let definition = Fill::Quoted(token_of(text, found.definition).0);
-        let sentence = if self.parts.is_strategy() {
-            ": the modules of the open group have this fault, in {} of the module {}, "
-        } else {
-            ": in {} of the module {}, "
-        };
-        say!(self.hint; sentence, definition, Fill::Quoted(found.module.name));
-        let start = self.say_place(found);
-        if found.module.is_new {
-            self.show(start);
-        } else {
-            self.hint.show(text, start);
-        }
-    }
-
-    // The place in the script, or in the text of a module that was loaded before. Returns the
-    // number of bytes before it.
-    fn say_place(&mut self, found: Found<'_, '_>) -> usize {
-        let start = token_of(found.module.text, found.token).1;
-        if found.module.is_new {
-            say!(self.hint; "{}", self.at(start));
-        } else {
-            say!(self.hint; "{} of its text", fill_of(found.module.text, 1, start));
-        }
-        start
     }
 
     // Says which module defines the name, and which declares it as a constructor.
     fn say_clash(&mut self, defining: &[u8], fault: Fault<'_>) {
-        let declaring = declaring(self.modules, fault.name, fault.strategies).map(|it| it.name);
+        let declaring = declaring(self.modules, fault.name, fault.strategies).map(|it| it.name());
         let sentence = match declaring {
-            None => "\n    the module {} defines it",
+            None => "the module {} defines it",
             Some(name) if name == defining =>
-                "\n    the module {} both defines it and declares it as a constructor",
-            Some(_) =>
-                "\n    the module {} defines it, and the module {} declares it as a constructor",
+                "the module {} both defines it and declares it as a constructor",
+            Some(_) => "the module {} defines it, and the module {} declares it as a constructor",
         };
         let declaring = Fill::Quoted(declaring.unwrap_or(&[]));
+        self.hint.note();
         say!(self.hint; sentence, Fill::Quoted(defining), declaring);
     }
 
     // ---- other names
 
-    // Says which definitions and constructors have the name with other numbers of arguments, or
-    // that the library or a module of `strategies/` defines it, or what to write in place of a form
-    // that isn't here, or else which name is near.
+    // Says which definitions and constructors have the name with other numbers of arguments, or that
+    // the library or a module of `strategies/` defines it, or what to write in place of a form that
+    // isn't here, or else which name is near.
     fn say_others(&mut self, fault: Fault<'_>) -> Result<(), NoMemory> {
-        let instead = instead_of(self.alloc, fault.name.bytes())?;
+        let instead = instead_of(fault.name.bytes());
         let defining = module_defining(fault.name.bytes());
         let is_unknown = matches!(fault.kind, FaultKind::Unknown);
         let mut near = Near::none();
-        for text in self.modules {
-            self.offer_names(&mut near, &text.module, fault)?;
+        for known in self.modules {
+            self.offer_names(&mut near, known.module.module(), fault)?;
         }
         if near.far == 0 {
-            self.say_near("\n    {} takes ", fault, near);
+            self.say_near("{} takes ", fault, near);
             // Terms may be meant where the strategies are: `add (x,y)` for `<add> (x,y)`.
             if is_unknown && near.arity == (0, 0) && fault.strategies > 0 {
                 let name = Fill::Bytes(first_characters(near.name, QUOTED));
@@ -179,7 +358,7 @@ impl Explainer<'_, '_, '_> {
                 arity,
             };
             self.say_near(
-                "\n    the library defines {}, but `--library` wasn't given; it takes ",
+                "the library defines {}, but `--library` wasn't given; it takes ",
                 fault,
                 library,
             );
@@ -187,32 +366,37 @@ impl Explainer<'_, '_, '_> {
             self.say_advice(instead);
         } else if is_unknown && !defining.is_empty() {
             let module = Fill::Words(defining);
-            say!(self.hint; "\n    the module `{}` of `strategies/` defines it; `--module {}=strategies/{}.str` loads it", module, module, module);
+            self.hint.help();
+            say!(self.hint; "the module `{}` of `strategies/` defines it; `--module {}=strategies/{}.str` loads it", module, module, module);
         } else if !near.name.is_empty() {
-            self.say_near("\n    did you mean {}? it takes ", fault, near);
+            self.say_near("did you mean {}? it takes ", fault, near);
         }
         Ok(())
     }
 
-    // Appends a sentence with the name, and what it takes.
+    // Adds a line that begins with a sentence with the name, and says what it takes.
     fn say_near(&mut self, sentence: &str, fault: Fault<'_>, near: Near<'_>) {
         let is_pattern = matches!(fault.kind, FaultKind::Undeclared);
         let first = Fill::Count(near.arity.0, if is_pattern { "term" } else { "strategy" });
         let terms = Fill::Count(near.arity.1, "term");
+        self.hint.help();
         say!(self.hint; sentence, Fill::Quoted(near.name));
         match near.arity {
-            (0, 0) => say!(self.hint; "no arguments"),
+            (0, 0) => self.hint.words("no arguments"),
             (_, 0) => say!(self.hint; "{}", first),
             (0, _) => say!(self.hint; "{}", terms),
             _ => say!(self.hint; "{} and {}", first, terms),
         }
+        if near.far > 0 {
+            self.hint.replace(self.wrong, near.name);
+        }
     }
 
     // Offers the names of a module that may stand where the wrong one does.
-    fn offer_names<'m>(
+    fn offer_names<'n>(
         &self,
-        near: &mut Near<'m>,
-        module: &'m Module,
+        near: &mut Near<'n>,
+        module: &'n Module,
         fault: Fault<'_>,
     ) -> Result<(), NoMemory> {
         let wanted = fault.name.bytes();
@@ -229,8 +413,8 @@ impl Explainer<'_, '_, '_> {
         Ok(())
     }
 
-    // The numbers of arguments of the definition of this name in the library, if it has one and
-    // wasn't loaded.
+    // The numbers of arguments of the definition of this name in the library, if it has one and wasn't
+    // loaded.
     fn arity_in_library(&self, name: &Name) -> Result<Option<(u64, u64)>, NoMemory> {
         let Some(text) = self.command.library else {
             return Ok(None);
@@ -243,125 +427,15 @@ impl Explainer<'_, '_, '_> {
     }
 }
 
-// Whether the fault is a name that comes twice in a list.
-fn is_in_list(fault: Fault<'_>) -> bool {
-    matches!(fault.kind, FaultKind::Parameter) && fault.strategies == 0 && fault.terms == 0
-}
-
-// ---- where a text has a fault
-
-// Where the first of the modules with the fault has it, and the last.
-fn with_fault<'m, 't>(
-    modules: &'m [Text<'t>],
-    fault: Fault<'_>,
-) -> (Option<Found<'m, 't>>, Option<Found<'m, 't>>) {
-    let mut first = None;
-    let mut last = None;
-    for module in modules {
-        if let Some(found) = find(module, fault) {
-            first = first.or(Some(found));
-            last = Some(found);
-        }
+// What is shown of a fault: of a primitive its name, which comes after `prim` and `(`.
+fn shown_place(fault: &FoundFault) -> Place {
+    match fault.kind() {
+        FaultKind::Primitive => fault.place().token(2),
+        _ => fault.place(),
     }
-    (first, last)
 }
 
-fn find<'m, 't>(module: &'m Text<'t>, fault: Fault<'_>) -> Option<Found<'m, 't>> {
-    for place in &module.definitions {
-        if let Some(token) = find_in(module, fault, *place) {
-            return Some(Found {
-                module,
-                token,
-                definition: place.first,
-            });
-        }
-    }
-    None
-}
-
-fn find_in(text: &Text<'_>, fault: Fault<'_>, place: DefinitionTokens) -> Option<usize> {
-    // Whether the name is in the same list before.
-    let mut is_listed = false;
-    for token in place.first..place.end {
-        let is_binding = matches!(text.role(token), Some(Role::Binding));
-        let is_name = text.is_name(token, fault.name);
-        let has_fault = match fault.kind {
-            FaultKind::Parameter if is_in_list(fault) => is_binding && is_listed && is_name,
-            FaultKind::Wild => is_wild(text, fault.name, token),
-            FaultKind::Primitive => is_primitive(text, fault.name, token),
-            _ => is_name && is_used(text, fault, place, token),
-        };
-        if has_fault {
-            return Some(token);
-        }
-        is_listed = is_binding && (is_listed || is_name);
-    }
-    None
-}
-
-// Whether the token of this number, which is the name of the fault, is where that is used or
-// defined, with its arguments.
-fn is_used(text: &Text<'_>, fault: Fault<'_>, place: DefinitionTokens, number: usize) -> bool {
-    let is_there = match fault.kind {
-        FaultKind::Undeclared => text.is_in_pattern(number),
-        FaultKind::Twice | FaultKind::Clash => number == place.first,
-        _ => matches!(text.role(number), Some(Role::Strategy)),
-    };
-    let after = text.tokens.get(number.saturating_add(1)..).unwrap_or(&[]);
-    is_there && arguments_of(after) == (fault.strategies, fault.terms)
-}
-
-fn is_wild(text: &Text<'_>, name: &Name, number: usize) -> bool {
-    let is_wildcard = matches!(text.tokens.get(number), Some(Token::Wildcard));
-    let is_at = is_sign(&text.tokens, number.saturating_add(1), Sign::At);
-    matches!(text.role(number), Some(Role::Built))
-        && ((is_wildcard && name.bytes() == b"_".as_slice())
-            || (is_at && text.is_name(number, name)))
-}
-
-fn is_primitive(text: &Text<'_>, name: &Name, number: usize) -> bool {
-    let (Some(Token::Text(found)), Some(word)) = (
-        text.tokens.get(number),
-        text.tokens.get(number.saturating_sub(2)),
-    ) else {
-        return false;
-    };
-    is_word(word, Keyword::Prim) && found.equals(name)
-}
-
-/// The numbers of strategies and of terms in the brackets that come next, if any do. An argument
-/// begins with a token after `(`, `,` or `|`.
-pub fn arguments_of(after: &[Token]) -> (u64, u64) {
-    let (mut strategies, mut terms) = (0u64, 0u64);
-    let (mut depth, mut begins, mut is_barred) = (0u64, false, false);
-    for token in after {
-        let is_bar = depth == 1 && is_mark(token, Sign::Bar);
-        let next = depth_after(depth, token);
-        if begins && !is_bar && next >= depth {
-            if is_barred {
-                terms = terms.saturating_add(1);
-            } else {
-                strategies = strategies.saturating_add(1);
-            }
-        }
-        begins = next == 1 && (is_bar || next > depth || is_mark(token, Sign::Comma));
-        is_barred = is_barred || is_bar;
-        depth = next;
-        if depth == 0 {
-            break;
-        }
-    }
-    (strategies, terms)
-}
-
-// How many brackets are open after the token, where so many are before. The first one is round.
-fn depth_after(depth: u64, token: &Token) -> u64 {
-    match token {
-        Token::Sign(Sign::OpenRound) => depth.saturating_add(1),
-        Token::Sign(Sign::OpenSquare | Sign::OpenCurly) if depth > 0 => depth.saturating_add(1),
-        Token::Sign(Sign::CloseRound | Sign::CloseSquare | Sign::CloseCurly) => {
-            depth.saturating_sub(1)
-        }
-        _ => depth,
-    }
+// Whether both have the same name and take as many arguments.
+fn is_like(definition: &Definition, other: &Definition) -> bool {
+    definition.name().equals(other.name()) && arity_of(definition) == arity_of(other)
 }

@@ -11,8 +11,9 @@ mod strategies;
 mod stuck;
 mod texts;
 mod trees;
+mod variables;
 mod warnings;
 
 pub use explainer::explain;
-pub use faults::has_fault;
-pub use warnings::{warn, warn_of_end};
+pub use faults::faulty_module;
+pub use warnings::{warn, warn_of_end, warn_of_nothing};

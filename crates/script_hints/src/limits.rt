@@ -2,13 +2,14 @@
 
 use crate::explainer::Explainer;
 use aterm_text::{MAX_NESTING, nesting, read, read_annotations};
-use hint_text::{Fill, say, token_of};
+use diagnostic::{Fill, say};
+use hint_text::token_of;
 use script_text::MAX_COMMAND;
 use session_history::{MOST_STEPS, Refusal, Timeline};
 use strategy_tokens::{MAX_TOKENS, token_count};
 use term_core::{MAX_HEIGHT, MAX_ROOM, NoMemory, Term};
 
-impl Explainer<'_, '_, '_> {
+impl Explainer<'_, '_> {
     /// The refusals whose explanation takes no memory but for its text.
     pub fn explain_limit(&mut self, history: &Timeline, refusal: &Refusal) {
         let group = self.command.past.group;
@@ -18,17 +19,17 @@ impl Explainer<'_, '_, '_> {
             Refusal::Deep => self.explain_deep(),
             Refusal::Long => {
                 let most = Fill::Number(MAX_COMMAND as u64);
-                say!(self.hint; ": a command has at most {} bytes", most);
+                say!(self.hint; "a command has at most {} bytes", most);
             }
             Refusal::Spent => self.explain_spent(),
             Refusal::NoUndo => self.explain_steps(history.past() as u64, "undo"),
             Refusal::NoRedo => self.explain_steps(history.later() as u64, "redo"),
             Refusal::Group if group.is_some() =>
-                say!(self.hint; ": a group is open since {}; `commit` or `abandon` ends it", line),
-            Refusal::Group => say!(self.hint; ": a group is open; `commit` or `abandon` ends it"),
+                say!(self.hint; "a group is open since {}; `commit` or `abandon` ends it", line),
+            Refusal::Group => say!(self.hint; "a group is open; `commit` or `abandon` ends it"),
             Refusal::NoGroup if group.is_some() =>
-                say!(self.hint; ": no group is open; `begin` begins one, and that of {} was ended", line),
-            Refusal::NoGroup => say!(self.hint; ": no group is open; `begin` begins one"),
+                say!(self.hint; "no group is open; `begin` begins one, and that of {} was ended", line),
+            Refusal::NoGroup => say!(self.hint; "no group is open; `begin` begins one"),
             _ => {}
         }
     }
@@ -41,7 +42,9 @@ impl Explainer<'_, '_, '_> {
         } else {
             ""
         });
-        say!(self.hint; ": the {} of the budget are used up\n    `within K` takes K up to {}{}", budget, most, raises);
+        say!(self.hint; "the {} of the budget are used up", budget);
+        self.hint.help();
+        say!(self.hint; "`within K` takes K up to {}{}", most, raises);
     }
 
     // Which option of the program raises the limit on the size of terms, unless it is the greatest.
@@ -55,7 +58,7 @@ impl Explainer<'_, '_, '_> {
 
     fn explain_steps(&mut self, steps: u64, word: &str) {
         let there = Fill::Words(if steps == 1 { "is" } else { "are" });
-        say!(self.hint; ": there {} {} to {}", there, Fill::Count(steps, "step"), Fill::Words(word));
+        say!(self.hint; "there {} {} to {}", there, Fill::Count(steps, "step"), Fill::Words(word));
     }
 
     // Refusal 8: how deep the term is, or how many tokens the text has.
@@ -68,11 +71,11 @@ impl Explainer<'_, '_, '_> {
             (nesting(text), MAX_NESTING, deep_place(text))
         };
         let sentence = if self.parts.is_module() {
-            ": the module has {} tokens, and may have {}"
+            "the module has {} tokens, and may have {}"
         } else if self.parts.is_strategy() {
-            ": the strategy has {} tokens, and may have {}"
+            "the strategy has {} tokens, and may have {}"
         } else {
-            ": {} brackets are open at one place, and {} may be"
+            "{} brackets are open at one place, and {} may be"
         };
         say!(self.hint; sentence, Fill::Number(count), Fill::Number(most));
         self.say_at("; the first too many is at {}", start);
@@ -90,7 +93,9 @@ impl Explainer<'_, '_, '_> {
                 Fill::Number(u64::from(self.limits.max_terms)),
                 Fill::Number(MAX_HEIGHT),
             );
-            say!(self.hint; ": a term that was built doesn't fit\n    a built term has at most {} terms in it{}, and a tree is at most {} high", size, self.raises_terms(), height);
+            self.hint.words("a term that was built doesn't fit");
+            self.hint.note();
+            say!(self.hint; "a built term has at most {} terms in it{}, and a tree is at most {} high", size, self.raises_terms(), height);
         } else if let Ok(term) = read(self.alloc, self.parts.text) {
             self.say_size(level, &term);
         }
@@ -109,11 +114,11 @@ impl Explainer<'_, '_, '_> {
         let most = MAX_HEIGHT.saturating_sub(level);
         let room = u64::from(self.limits.max_terms);
         if size > room {
-            say!(self.hint; ": the term has {} terms in it, and may have {}{}", Fill::Number(size), Fill::Number(room), self.raises_terms());
+            say!(self.hint; "the term has {} terms in it, and may have {}{}", Fill::Number(size), Fill::Number(room), self.raises_terms());
         } else if level == 0 {
-            say!(self.hint; ": the term is {} high, and may be {}", Fill::Number(height), Fill::Number(most));
+            say!(self.hint; "the term is {} high, and may be {}", Fill::Number(height), Fill::Number(most));
         } else {
-            say!(self.hint; ": the term is {} high, and may be {} below {}", Fill::Number(height), Fill::Number(most), Fill::Count(level, "term"));
+            say!(self.hint; "the term is {} high, and may be {} below {}", Fill::Number(height), Fill::Number(most), Fill::Count(level, "term"));
         }
     }
 }

@@ -3,7 +3,8 @@
 use crate::explainer::Explainer;
 use crate::names::Near;
 use crate::texts::BEGINS_WITH_MARK;
-use hint_text::{FORMS, Fill, begins_with_mark, has_word, say, split_word};
+use diagnostic::{Fill, begins_with_mark, say};
+use hint_text::{FORMS, has_word, split_word};
 use script_text::{Framing, Keyword};
 use session_history::MAX_STEPS;
 use std::alloc::Global;
@@ -27,15 +28,15 @@ const NO_SLASH: &str = "the path {} doesn't begin with `/`";
 
 const NO_NUMBER: &str = "{} is no number from 1 to {}";
 
-impl Explainer<'_, '_, '_> {
+impl Explainer<'_, '_> {
     /// Refusal 2: what is wrong with the command, and its form.
     pub fn explain_line(&mut self) -> Result<(), NoMemory> {
-        say!(self.hint; ": ");
         if self.parts.form.is_empty() {
             return self.explain_word();
         }
         self.say_fault();
-        say!(self.hint; "\n    the form is `{}`", Fill::Words(self.parts.form));
+        self.hint.help();
+        say!(self.hint; "the form is `{}`", Fill::Words(self.parts.form));
         Ok(())
     }
 
@@ -158,7 +159,8 @@ impl Explainer<'_, '_, '_> {
     }
 
     fn say_commands(&mut self) {
-        say!(self.hint; "\n    the commands are");
+        self.hint.help();
+        self.hint.words("the commands are");
         for form in FORMS.lines() {
             say!(self.hint; " {}", Fill::Bytes(split_word(form.as_bytes()).0));
         }
@@ -166,9 +168,10 @@ impl Explainer<'_, '_, '_> {
 
     // Says that the command before, of this word, ended.
     fn say_continued(&mut self, before: &str, line: u64) {
+        self.hint.help();
         say!(self.hint; match self.command.framing {
-            Framing::Lines => "\n    with `--lines` and `-i` each line is a command",
-            Framing::Continued => "\n    every line of a command but the first begins with a blank: the `{}` of {} ended before this one",
+            Framing::Lines => "with `--lines` and `-i` each line is a command",
+            Framing::Continued => "every line of a command but the first begins with a blank: the `{}` of {} ended before this one",
         }, Fill::Words(before), Fill::Line(line));
     }
 }

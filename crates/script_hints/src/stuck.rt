@@ -1,6 +1,6 @@
 //! A token with which a text doesn't go on, what is around it, and what to write in its place.
 
-use hint_text::{CommandParts, Fill, Hint, has_word, is_sign, say, split_word, token_of};
+use hint_text::{CommandParts, has_word, is_sign, split_word, token_of};
 use std::alloc::Global;
 use strategy_parse::{stuck_module, stuck_strategy};
 use strategy_tokens::{Keyword, Sign, Token, is_mark};
@@ -141,13 +141,14 @@ fn stuck_token(
 }
 
 /// What to write in place of the form that this name begins; nothing if it begins none.
-pub fn instead_of(alloc: Global, name: &[u8]) -> Result<&'static str, NoMemory> {
-    let mut facts = Hint::new(alloc);
-    say!(facts; "near={}", Fill::Bytes(name));
-    Ok(advice_on(&facts.into_text()?))
+pub fn instead_of(name: &[u8]) -> &'static str {
+    advice_on(&[("near", name)])
 }
 
-fn advice_on(facts: &[u8]) -> &'static str {
+// What is known of the token: pairs of what it is about and what it is.
+type Fact<'a> = (&'static str, &'a [u8]);
+
+fn advice_on(facts: &[Fact<'_>]) -> &'static str {
     for line in ADVICE.lines() {
         if let Some((wanted, advice)) = line.split_once(" -- ")
             && wanted.split(' ').all(|fact| has_fact(facts, fact))
@@ -158,24 +159,27 @@ fn advice_on(facts: &[u8]) -> &'static str {
     ""
 }
 
-fn has_fact(facts: &[u8], wanted: &str) -> bool {
-    facts
-        .split(|byte| *byte == b' ')
-        .any(|fact| fact == wanted.as_bytes())
+fn has_fact(facts: &[Fact<'_>], wanted: &str) -> bool {
+    match wanted.split_once("=") {
+        Some((about, what)) => facts
+            .iter()
+            .any(|fact| fact.0 == about && fact.1 == what.as_bytes()),
+        None => false,
+    }
 }
 
 impl<'a> StuckToken<'a> {
     /// What to write instead, where the token or what is before it looks like a known mistake; else
     /// nothing.
     pub fn advice(&self, alloc: Global) -> Result<&'static str, NoMemory> {
-        let mut facts = Hint::new(alloc);
+        let mut facts = Vec::new(alloc);
         let here = self.spelled(self.number);
-        self.say_tokens(&mut facts, here);
-        self.say_item(&mut facts, here);
+        self.add_tokens(&mut facts, here)?;
+        self.add_item(&mut facts, here)?;
         if matches!(self.after.first(), Some(Token::Reserved(_))) {
-            self.say_word(&mut facts, here);
+            self.add_word(&mut facts, here)?;
         }
-        Ok(advice_on(&facts.into_text()?))
+        Ok(advice_on(&facts))
     }
 
     // The bytes of a token, up to the first blank in it; none if there is no such token.
@@ -194,9 +198,9 @@ impl<'a> StuckToken<'a> {
         self.spelled(self.number.saturating_add(1))
     }
 
-    // The token, those beside it, that before an open `<` and the first one of the item; and what
-    // it and the one before it are, and are used for.
-    fn say_tokens(&self, facts: &mut Hint, here: &'a [u8]) {
+    // The token, those beside it, that before an open `<` and the first one of the item; and what it
+    // and the one before it are, and are used for.
+    fn add_tokens(&self, facts: &mut Vec<Fact<'a>>, here: &'a [u8]) -> Result<(), NoMemory> {
         let (before, next) = (self.spelled_before(self.number), self.spelled_after());
         let guard = match self.open {
             Some(open) if matches!(open.form, OpenForm::Guard) => self.spelled_before(open.token),
@@ -207,48 +211,59 @@ impl<'a> StuckToken<'a> {
             [_] => before,
             _ => &[],
         };
-        let (before, here) = (Fill::Bytes(before), Fill::Bytes(here));
-        say!(facts; "before={} here={} next={} near={} near={} near={} begins={}", before, here, Fill::Bytes(next), before, here, Fill::Bytes(guard), Fill::Bytes(begins));
-        let (role, was) = (Fill::Words(self.role), Fill::Words(self.role_before));
         let (kind, ended) = (kind_of(self.after.first()), kind_of(self.before.last()));
-        let after = Fill::Words(if ended == "none" { "other" } else { "operand" });
-        say!(facts; " role={} was={} kind={} kind-before={} after={}", role, was, Fill::Words(kind), Fill::Words(ended), after);
+        let after = if ended == "none" { "other" } else { "operand" };
+        facts.push(("before", before))?;
+        facts.push(("here", here))?;
+        facts.push(("next", next))?;
+        facts.push(("near", before))?;
+        facts.push(("near", here))?;
+        facts.push(("near", guard))?;
+        facts.push(("begins", begins))?;
+        facts.push(("role", self.role.as_bytes()))?;
+        facts.push(("was", self.role_before.as_bytes()))?;
+        facts.push(("kind", kind.as_bytes()))?;
+        facts.push(("kind-before", ended.as_bytes()))?;
+        Ok(facts.push(("after", after.as_bytes()))?)
     }
 
-    // What the item and its section are, and of some words the last before the token or in the
-    // item.
-    fn say_item(&self, facts: &mut Hint, here: &[u8]) {
-        let text = Fill::Words(if self.is_module { "module" } else { "strategy" });
-        let open = Fill::Words(if self.open.is_none() { "none" } else { "form" });
-        let (item, section) = (Fill::Words(self.item_word(here)), Fill::Words(self.section));
-        say!(facts; " text={} open={} item={} section={}", text, open, item, section);
-        let (has, body) = (last_of(self.before, "let"), last_of(self.before, "-> ="));
-        let (last, side) = (
-            last_of(self.before, "where -> ="),
-            last_of(self.item, "-> ?"),
-        );
-        say!(facts; " has={} body={} last={} side={}", Fill::Words(has), Fill::Words(body), Fill::Words(last), Fill::Words(side));
+    // What the item and its section are, and of some words the last before the token or in the item.
+    fn add_item(&self, facts: &mut Vec<Fact<'a>>, here: &[u8]) -> Result<(), NoMemory> {
+        let text = if self.is_module { "module" } else { "strategy" };
+        let open = if self.open.is_none() { "none" } else { "form" };
+        facts.push(("text", text.as_bytes()))?;
+        facts.push(("open", open.as_bytes()))?;
+        facts.push(("item", self.item_word(here).as_bytes()))?;
+        facts.push(("section", self.section.as_bytes()))?;
+        facts.push(("has", last_of(self.before, "let").as_bytes()))?;
+        facts.push(("body", last_of(self.before, "-> =").as_bytes()))?;
+        facts.push(("last", last_of(self.before, "where -> =").as_bytes()))?;
+        facts.push(("side", last_of(self.item, "-> ?").as_bytes()))?;
         if begins_header(self.after) {
-            say!(facts; " header=whole");
+            facts.push(("header", b"whole".as_slice()))?;
         }
         if has_word("= :", here) {
-            say!(facts; " ended={}", Fill::Words(mark_before_header(self.before)));
+            facts.push(("ended", mark_before_header(self.before).as_bytes()))?;
         }
+        Ok(())
     }
 
     // Of a reserved word: which it is, and whether a list ends after it.
-    fn say_word(&self, facts: &mut Hint, here: &[u8]) {
+    fn add_word(&self, facts: &mut Vec<Fact<'a>>, here: &[u8]) -> Result<(), NoMemory> {
         let next = self.spelled_after();
         if has_word("where", here) && !self.open.is_some_and(|open| is_bracket(open.form)) {
-            say!(facts; " word=where");
+            facts.push(("word", b"where".as_slice()))?;
         } else if has_word(SECTIONS, here) {
-            say!(facts; " word=reserved word=section");
+            facts.push(("word", b"reserved".as_slice()))?;
+            facts.push(("word", b"section".as_slice()))?;
         } else {
-            say!(facts; " word=reserved word=plain");
+            facts.push(("word", b"reserved".as_slice()))?;
+            facts.push(("word", b"plain".as_slice()))?;
         }
         if next.is_empty() || has_word(") ] } , | :", next) {
-            say!(facts; " list=ends");
+            facts.push(("list", b"ends".as_slice()))?;
         }
+        Ok(())
     }
 
     // What the item is: new; of a definition its name and parameters alone, or one with a strategy

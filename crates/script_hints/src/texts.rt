@@ -2,7 +2,8 @@
 
 use crate::explainer::Explainer;
 use crate::stuck::{StuckToken, is_bracket, stuck_of};
-use hint_text::{Fill, begins_with_mark, character_at, say, token_of, tokens_of};
+use diagnostic::{Fill, begins_with_mark, character_at, say};
+use hint_text::{token_of, tokens_of};
 use strategy_tokens::Token;
 use term_core::NoMemory;
 use text_faults::{
@@ -18,7 +19,7 @@ const OUT_OF_RANGE: &str =
 const ESCAPES: &str =
     "the escapes are \\\" \\\\ \\n \\t \\r and \\ with three octal digits, at most \\377";
 
-impl<'a> Explainer<'a, '_, '_> {
+impl<'a> Explainer<'a, '_> {
     // ---- terms
 
     /// Refusal 7: where the text stops being a term, or an annotation part.
@@ -30,7 +31,6 @@ impl<'a> Explainer<'a, '_, '_> {
             stuck_term(self.alloc, text)?
         };
         if let Some(stuck) = found {
-            say!(self.hint; ": ");
             self.say_stuck_term(stuck);
             if stuck.at == 0 && begins_with_mark(text) {
                 self.say_advice(BEGINS_WITH_MARK);
@@ -42,10 +42,16 @@ impl<'a> Explainer<'a, '_, '_> {
     fn say_stuck_term(&mut self, stuck: StuckTerm) {
         let at = stuck.at;
         match stuck.fault {
-            TermFault::End => match stuck.open {
-                Some(open) => self.say_here("the term ends too early; the {} at {} is open", open),
-                None => say!(self.hint; "the term is missing"),
-            },
+            TermFault::End => {
+                self.hint.note_end();
+                match stuck.open {
+                    Some(open) => self.say_here(
+                        "the term ends too early; the {} at {} is open",
+                        open,
+                    ),
+                    None => self.hint.words("the term is missing"),
+                }
+            }
             TermFault::Byte => self.say_byte(stuck),
             TermFault::After => self.say_here("the term ends before {} at {}", at),
             TermFault::Real => self.say_at("the number at {} is a real, and there are none", at),
@@ -66,9 +72,9 @@ impl<'a> Explainer<'a, '_, '_> {
         } else {
             "no term goes on with {} at {}"
         };
-        say!(self.hint; sentence, self.character(stuck.at), self.at(stuck.at));
+        say!(self.hint; sentence, self.character(stuck.at), self.at_byte(stuck.at));
         if let Some(open) = stuck.open {
-            say!(self.hint; "; the {} at {} is open", self.character(open), self.at(open));
+            say!(self.hint; "; the {} at {} is open", self.character(open), self.at_byte(open));
         }
         self.show(stuck.at);
     }
@@ -76,7 +82,7 @@ impl<'a> Explainer<'a, '_, '_> {
     // Appends a sentence with the character at this place of the text, and the place, which is
     // shown.
     fn say_here(&mut self, sentence: &str, start: usize) {
-        say!(self.hint; sentence, self.character(start), self.at(start));
+        say!(self.hint; sentence, self.character(start), self.at_byte(start));
         self.show(start);
     }
 
@@ -99,7 +105,7 @@ impl<'a> Explainer<'a, '_, '_> {
         let parts = self.parts;
         let stuck = stuck_of(self.alloc, &parts, tokens)?;
         let advice = stuck.advice(self.alloc)?;
-        say!(self.hint; ": {} {}: ", Fill::Bytes(parts.word), Fill::Bytes(parts.name));
+        self.hint.set_subject(parts.word, parts.name);
         let kind = Fill::Words(if parts.is_module() {
             "module"
         } else {
@@ -142,6 +148,7 @@ impl<'a> Explainer<'a, '_, '_> {
 
     // A text that ends too early.
     fn say_end(&mut self, kind: Fill<'_>, stuck: &StuckToken<'_>, advice: &str) {
+        self.hint.note_end();
         if stuck.number == 0 {
             say!(self.hint; "the {} is missing", kind);
         } else if let Some(open) = stuck.open {
@@ -153,13 +160,6 @@ impl<'a> Explainer<'a, '_, '_> {
             say!(self.hint; "the {} ends too early: it can't end with {} at {}", kind, last, at);
             self.show(start);
             self.say_advice(advice);
-        }
-    }
-
-    /// Appends a line with the advice, unless it is empty.
-    pub fn say_advice(&mut self, advice: &str) {
-        if !advice.is_empty() {
-            say!(self.hint; "\n    {}", Fill::Words(advice));
         }
     }
 

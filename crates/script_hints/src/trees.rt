@@ -1,12 +1,14 @@
 //! What a tree has at a path, and what a strategy was applied to.
 
 use crate::explainer::Explainer;
-use hint_text::{Fill, Text, declaring, read_strategy, say};
+use crate::variables::{VariableUse, variables_of};
+use diagnostic::{Fill, say};
+use hint_text::declaring;
 use session_history::Timeline;
 use term_core::NoMemory;
 use term_paths::at;
 
-impl Explainer<'_, '_, '_> {
+impl Explainer<'_, '_> {
     /// Refusal 9: the longest front of the path that is there, and how many children that subterm
     /// has.
     pub fn explain_path(&mut self, history: &Timeline) -> Result<(), NoMemory> {
@@ -15,7 +17,7 @@ impl Explainer<'_, '_, '_> {
         };
         let path = self.parts.path_or_root(self.alloc)?;
         let whole = Fill::Quoted(self.parts.path.unwrap_or(&[]));
-        say!(self.hint; ": {} leads only as far as `/", whole);
+        say!(self.hint; "{} leads only as far as `/", whole);
         let mut separator = "";
         for part in path.parts() {
             let Some(child) = subterm.child(*part) else {
@@ -45,23 +47,25 @@ impl Explainer<'_, '_, '_> {
         let Some(term) = term else {
             return Ok(());
         };
-        say!(self.hint; ": it was applied to ");
+        say!(self.hint; "it was applied to ");
         self.hint.root(term.kind(), term.child_count());
-        let strategy = read_strategy(self.alloc, self.parts.text)?;
-        self.say_constant(&strategy);
-        drop(strategy);
-        Ok(())
+        match self.strategy()? {
+            Some(strategy) => {
+                let uses = variables_of(self.alloc, &strategy)?;
+                self.say_constant(&uses);
+                Ok(())
+            }
+            None => Ok(()),
+        }
     }
 
-    // Appends a line on the first token of the strategy that is a variable with the name of a
-    // constant.
-    fn say_constant(&mut self, strategy: &Text<'_>) {
-        for number in 0..strategy.tokens.len() {
-            if let Some(variable) = strategy.variable_at(number)
-                && declaring(self.modules, variable, 0).is_some()
-            {
-                let (name, _start, at) = self.token(number);
-                say!(self.hint; "\n    {} at {} is a variable; the constant is `{}()`", name, at, Fill::Bytes(variable.bytes()));
+    // Adds a line on the first variable of the strategy that has the name of a constant.
+    fn say_constant(&mut self, uses: &[VariableUse<'_>]) {
+        for found in uses {
+            if declaring(self.modules, found.name, 0).is_some() {
+                let (name, at) = self.quoted_at(self.bytes_of(found.place));
+                self.hint.note();
+                say!(self.hint; "{} at {} is a variable; the constant is `{}()`", name, at, Fill::Bytes(found.name.bytes()));
                 return;
             }
         }

@@ -1,119 +1,139 @@
 //! What is odd in an accepted command.
 
-use crate::explainer::{Explainer, modules_of};
-use hint_text::{
-    Fill, Hint, Past, ScriptCommand, Text, arity_of, declaring, is_sign, parts_of, say,
-};
+use crate::explainer::{Explainer, origin_of};
+use crate::variables::{VariableUse, variables_of};
+use diagnostic::{Code, Diagnostic, Fill, Origin, Report, Severity, say};
+use hint_text::{Ground, ModuleTexts, Past, ScriptCommand, arity_of, declaring};
+use prim_core::Meaning;
 use script_text::{Framing, Keyword as Command};
 use session_history::Timeline;
 use std::alloc::Global;
-use strategy_syntax::Definition;
-use strategy_tokens::{Keyword, Sign, Token, is_mark, is_word};
+use strategy_syntax::{Definition, Pattern, PatternForm, Place, Strategy, StrategyForm};
+use strategy_tokens::TokenPlace;
 use term_core::{Name, NoMemory};
 
 // The most bytes of a term that is looked through.
 const LOOKED: usize = 16_384;
 
-/// A line for each oddity of a command that was accepted, without a line feed at the end;
-/// nothing if there is none. The history is the one after the command.
+/// Reports the oddities of a command that was accepted. The ground is the one after the command.
 ///
-/// Errors: `NoMemory` if memory can't grow.
-pub fn warn<'a>(
+/// Errors: `NoMemory` if memory can't grow; what was found before that is reported.
+pub fn warn<M: Meaning, R: Report>(
     alloc: Global,
-    history: &'a Timeline,
-    command: &ScriptCommand<'a>,
-) -> Result<Vec<u8>, NoMemory> {
-    let parts = parts_of(command.text);
-    if matches!(parts.command, Command::Apply) {
-        return warn_of_nothing(alloc, history, command);
-    }
+    ground: &Ground<'_, M>,
+    command: &ScriptCommand<'_>,
+    report: &mut R,
+) -> Result<(), NoMemory> {
+    let (parts, history) = (command.parts, ground.history);
     if !parts.is_module() && (!parts.is_term() || parts.text.len() > LOOKED) {
-        return Ok(Vec::new(alloc));
+        return Ok(());
     }
-    let names = history.module_names()?;
-    let modules = modules_of(alloc, history, &names, &parts, false)?;
-    let mut explainer = Explainer::new(alloc, command, &modules, history.limits());
-    let warned = if parts.is_module() {
-        explainer.warn_of_modules();
-        Ok(())
-    } else {
-        explainer.warn_of_constructors()
-    };
-    explainer.hint.keep(warned);
-    let said = explainer.hint.into_text();
-    drop(modules);
-    said
+    match ModuleTexts::read(alloc, history, ground.kept, &parts, true) {
+        Ok(texts) => warn_among(alloc, history, command, &texts, report),
+        Err(NoMemory) => Err(NoMemory),
+    }
 }
 
-// Of an `apply` that replaced nothing. In a group nothing is said.
-fn warn_of_nothing<'a>(
+fn warn_among<R: Report>(
     alloc: Global,
-    history: &'a Timeline,
-    command: &ScriptCommand<'a>,
-) -> Result<Vec<u8>, NoMemory> {
-    let mut explainer = Explainer::new(alloc, command, &[], history.limits());
-    if history.last_is_empty() {
-        say!(explainer.hint; "{}: warning: the strategy replaced nothing", explainer.source());
+    history: &Timeline,
+    command: &ScriptCommand<'_>,
+    texts: &ModuleTexts<'_>,
+    report: &mut R,
+) -> Result<(), NoMemory> {
+    let modules = texts.all(alloc, &command.parts)?;
+    let hint = warning(alloc, "", origin_of(command));
+    let mut explainer = Explainer::new(alloc, hint, command, &modules, history.limits());
+    if explainer.parts.is_module() {
+        explainer.warn_of_modules(report)
+    } else {
+        explainer.warn_of_constructors(report)
     }
-    explainer.hint.into_text()
 }
 
-/// What is odd at the end of a script, in the form of `warn`: a group that is still open.
-///
-/// Errors: `NoMemory` if memory can't grow.
-pub fn warn_of_end(alloc: Global, past: Past) -> Result<Vec<u8>, NoMemory> {
-    let mut hint = Hint::new(alloc);
+fn warning(alloc: Global, word: &'static str, origin: Origin<'_>) -> Diagnostic {
+    Diagnostic::new(alloc, Severity::Warning, Code { number: 0, word }, origin)
+}
+
+/// What is said of an `apply` that was accepted and replaced nothing. In a group nothing is said.
+pub fn warn_of_nothing(
+    alloc: Global,
+    history: &Timeline,
+    command: &ScriptCommand<'_>,
+) -> Option<Diagnostic> {
+    if !matches!(command.parts.command, Command::Apply) || !history.last_is_empty() {
+        return None;
+    }
+    let mut hint = warning(alloc, "nothing", origin_of(command));
+    hint.words("the strategy replaced nothing");
+    Some(hint)
+}
+
+/// Reports what is odd at the end of a script: a group that is still open.
+pub fn warn_of_end<R: Report>(alloc: Global, past: Past, report: &mut R) {
     if let (Some(line), true) = (past.group, past.open) {
-        say!(hint; "{}: warning: the group is still open at the end: what it changed is no step", Fill::Line(line));
+        let mut hint = warning(alloc, "group", Origin::Line(line));
+        hint.words("the group is still open at the end: what it changed is no step");
+        report.report(&hint);
     }
-    hint.into_text()
 }
 
-// A definition, the numbers of its first token and of the one after its last, and in a rule those
-// of the `->` and of the `where` or the end.
+// The sides of a rule, or of a definition that is like one, and whether it has a condition.
 #[derive(Clone, Copy)]
-struct Read<'a> {
-    definition: &'a Definition,
-    first: usize,
-    end: usize,
-    rule: Option<(usize, usize)>,
+struct Sides<'a> {
+    variables: &'a [Name],
+    left: &'a Pattern,
+    right: &'a Pattern,
+    is_conditional: bool,
 }
 
-fn read_definition<'a>(module: &'a Text<'_>, number: usize) -> Option<Read<'a>> {
-    let place = module.definitions.get(number)?;
-    Some(Read {
-        definition: module.module.definitions().get(number)?,
-        first: place.first,
-        end: place.end,
-        rule: rule_of(module.tokens.get(place.first..place.end)?, place.first),
-    })
+fn sides_of(definition: &Definition) -> Option<Sides<'_>> {
+    let StrategyForm::Scope(variables, inside) = definition.body().form() else {
+        return None;
+    };
+    let (left, then) = match_first(inside)?;
+    if let StrategyForm::Build(right) = then.form() {
+        return Some(Sides {
+            variables,
+            left,
+            right,
+            is_conditional: false,
+        });
+    }
+    if let StrategyForm::Seq(parts) = then.form()
+        && let (StrategyForm::Test(_), StrategyForm::Build(right)) = (
+            parts.0.form(),
+            parts.1.form(),
+        )
+    {
+        return Some(Sides {
+            variables,
+            left,
+            right,
+            is_conditional: true,
+        });
+    }
+    None
 }
 
-// A definition with a `:` before its body is a rule. Returned are the numbers of its `->` and of
-// its `where` or the token after it.
-fn rule_of(tokens: &[Token], first: usize) -> Option<(usize, usize)> {
-    let is_separator = |it: &Token| is_mark(it, Sign::Colon) || is_mark(it, Sign::Equals);
-    let separator = tokens.iter().position(is_separator)?;
-    let arrow = tokens.iter().position(|it| is_mark(it, Sign::Arrow))?;
-    let condition = tokens
-        .iter()
-        .position(|it| is_word(it, Keyword::Where))
-        .unwrap_or(tokens.len());
-    let is_rule = is_sign(tokens, separator, Sign::Colon);
-    is_rule.then_some((first.saturating_add(arrow), first.saturating_add(condition)))
+// The pattern that a strategy matches first, and what it does then.
+fn match_first(strategy: &Strategy) -> Option<(&Pattern, &Strategy)> {
+    if let StrategyForm::Seq(parts) = strategy.form()
+        && let StrategyForm::Match(left) = parts.0.form()
+    {
+        return Some((left, &parts.1));
+    }
+    None
 }
 
 // Whether it is a rule without a condition whose left side is `_` or a variable.
-fn catches_all(module: &Text<'_>, read: Read<'_>) -> bool {
-    let Some((arrow, condition)) = read.rule else {
-        return false;
-    };
-    if condition < read.end || !is_sign(&module.tokens, arrow.saturating_sub(2), Sign::Colon) {
-        return false;
-    }
-    match module.tokens.get(arrow.saturating_sub(1)) {
-        Some(Token::Wildcard) => true,
-        Some(Token::Ident(name)) => !has_name(read.definition.term_parameters(), name),
+fn catches_all(definition: &Definition) -> bool {
+    match sides_of(definition) {
+        Some(sides) if !sides.is_conditional => match sides.left.form() {
+            PatternForm::Wildcard => true,
+            PatternForm::Variable(name) => !has_name(definition.term_parameters(), name),
+            _ => false,
+        },
         _ => false,
     }
 }
@@ -122,76 +142,111 @@ fn has_name(names: &[Name], name: &Name) -> bool {
     names.iter().any(|it| it.equals(name))
 }
 
-impl Explainer<'_, '_, '_> {
-    // Only of the module of the command the tokens were read.
-    fn warn_of_modules(&mut self) {
+impl Explainer<'_, '_> {
+    fn warn_of_modules<R: Report>(&mut self, report: &mut R) -> Result<(), NoMemory> {
         if self.parts.text.is_empty() && self.command.framing == Framing::Lines {
+            self.begin("empty");
             let name = Fill::Quoted(self.parts.name);
-            say!(self.hint; "{}: warning: the module {} is empty now: each line is a command; `undo` takes it back", self.source(), name);
+            say!(self.hint; "the module {} is empty now: each line is a command; `undo` takes it back", name);
+            report.report(&self.hint);
         }
         for module in self.modules {
-            for number in 0..module.definitions.len() {
-                if let Some(read) = read_definition(module, number) {
-                    self.warn_of_variables(module, read);
-                    self.warn_of_order(module, read, number);
+            if module.is_new {
+                let definitions = module.definitions();
+                for (number, definition) in definitions.iter().enumerate() {
+                    self.warn_of_variables(definition, report)?;
+                    let before = definitions.get(..number).unwrap_or(&[]);
+                    self.warn_of_order(definition, before, report);
                 }
             }
         }
+        Ok(())
     }
 
-    /// Begins a warning on the token of this number, in the definition of this name, if it is in
-    /// one.
-    pub fn begin_warning(&mut self, within: Option<&Name>, number: usize) {
-        if !self.hint.is_empty() {
-            say!(self.hint; "\n");
-        }
-        say!(self.hint; "{}: warning: ", self.source());
+    /// Begins a warning of this word.
+    pub fn begin(&mut self, word: &'static str) {
+        self.hint = warning(self.alloc, word, origin_of(&self.command));
+    }
+
+    /// Begins a warning on these bytes of the text, in the definition of this name, if they are in one.
+    pub fn begin_warning(&mut self, word: &'static str, within: Option<&Name>, place: TokenPlace) {
+        self.begin(word);
         if let Some(name) = within {
             say!(self.hint; "in {}, ", Fill::Quoted(name.bytes()));
         }
-        let (token, _start, at) = self.token(number);
+        let (token, at) = self.quoted_at(place);
         say!(self.hint; "{}: {}", at, token);
     }
 
-    // Warns once of each variable with the name of a constant, and of each that only the right side
-    // of a rule has.
-    fn warn_of_variables(&mut self, module: &Text<'_>, read: Read<'_>) {
-        let (arrow, condition) = read.rule.unwrap_or((read.end, read.end));
-        let within = Some(read.definition.name());
-        for number in read.first..read.end {
-            let Some(name) = module.variable_at(number) else {
-                continue;
-            };
-            if module.has_variable(name, read.first, number) {
-                continue;
+    // Warns once of each variable with the name of a constant, and of each that only the right side of
+    // a rule has.
+    fn warn_of_variables<R: Report>(
+        &mut self,
+        definition: &Definition,
+        report: &mut R,
+    ) -> Result<(), NoMemory> {
+        let uses = variables_of(self.alloc, definition.body())?;
+        for (number, found) in uses.iter().enumerate() {
+            if !has_use(uses.get(..number).unwrap_or(&[]), found.name) {
+                self.warn_of_variable(definition, *found, &uses, report);
             }
-            if declaring(self.modules, name, 0).is_some() {
-                self.begin_warning(within, number);
-                say!(self.hint; " is a variable; the constant is `{}()`", Fill::Bytes(name.bytes()));
-            } else if arrow <= number
-                && number < condition
-                && !has_name(read.definition.term_parameters(), name)
-                && !module.has_variable(name, condition, read.end)
-            {
-                self.begin_warning(within, number);
-                say!(self.hint; " is only on the right side: nothing binds it");
-            }
+        }
+        drop(uses);
+        Ok(())
+    }
+
+    fn warn_of_variable<R: Report>(
+        &mut self,
+        definition: &Definition,
+        found: VariableUse<'_>,
+        uses: &[VariableUse<'_>],
+        report: &mut R,
+    ) {
+        let within = Some(definition.name());
+        if declaring(self.modules, found.name, 0).is_some() {
+            self.begin_warning("constant", within, self.bytes_of(found.place));
+            say!(self.hint; " is a variable; the constant is `{}()`", Fill::Bytes(found.name.bytes()));
+            report.report(&self.hint);
+        } else if let Some(sides) = sides_of(definition)
+            && has_name(sides.variables, found.name)
+            && all_within(uses, found.name, sides.right.place())
+        {
+            self.begin_warning("unbound", within, self.bytes_of(found.place));
+            self.hint
+                .words(" is only on the right side: nothing binds it");
+            report.report(&self.hint);
         }
     }
 
     // Warns of a definition after one of the same name and parameters that matches every term.
-    fn warn_of_order(&mut self, module: &Text<'_>, read: Read<'_>, number: usize) {
-        for before in 0..number {
-            if let Some(before) = read_definition(module, before)
-                && before.definition.name().equals(read.definition.name())
-                && arity_of(before.definition) == arity_of(read.definition)
-                && catches_all(module, before)
+    fn warn_of_order<R: Report>(
+        &mut self,
+        definition: &Definition,
+        before: &[Definition],
+        report: &mut R,
+    ) {
+        for earlier in before {
+            if earlier.name().equals(definition.name())
+                && arity_of(earlier) == arity_of(definition)
+                && catches_all(earlier)
             {
-                let at = self.token(before.first).2;
-                self.begin_warning(Some(read.definition.name()), read.first);
+                let at = self.at(self.bytes_of(earlier.place().token(0)));
+                let place = self.bytes_of(definition.place().token(0));
+                self.begin_warning("unreached", Some(definition.name()), place);
                 say!(self.hint; " isn't reached: the rule at {} matches every term", at);
+                report.report(&self.hint);
                 return;
             }
         }
     }
+}
+
+fn has_use(uses: &[VariableUse<'_>], name: &Name) -> bool {
+    uses.iter().any(|it| it.name.equals(name))
+}
+
+// Whether all uses of the variable are within this place.
+fn all_within(uses: &[VariableUse<'_>], name: &Name, place: Place) -> bool {
+    uses.iter()
+        .all(|it| !it.name.equals(name) || place.contains(it.place))
 }
