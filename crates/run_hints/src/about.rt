@@ -3,7 +3,8 @@
 
 use crate::finding::{Node, Part, is_around};
 use crate::observing::Called;
-use hint_text::{DEEPEST, place_of, token_of};
+use diagnostic::{DEEPEST, Spot};
+use hint_text::token_of;
 use session_history::CheckedTexts;
 use std::alloc::Global;
 use strategy_parse::{definition_stands_at, stands_at, token_count};
@@ -60,14 +61,19 @@ impl<'a> Body<'a> {
         self.module == b"library".as_slice()
     }
 
-    /// The line of its module's text on which it begins.
-    pub fn line(&self) -> u64 {
+    /// Where it begins in its module's text, with its name.
+    pub fn spot(&self) -> Spot<'a> {
         let first = match tokens_at(self.text, self.definition.place()) {
             Some(tokens) => tokens.first,
             None => 0,
         };
-        let (_name, start) = token_of(self.text, first);
-        place_of(self.text, 1, start).line
+        let (name, start) = token_of(self.text, first);
+        Spot::in_module(
+            self.module,
+            self.text,
+            start,
+            start.saturating_add(name.len()),
+        )
     }
 
     /// Whether both are the same.

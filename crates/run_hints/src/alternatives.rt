@@ -5,7 +5,7 @@ use crate::finding::Part;
 use crate::matching::{Compared, Miss, are_alike, compare, matched, may_match, part_after};
 use crate::observing::Called;
 use crate::telling::{Teller, kind_of};
-use hint_text::{DEEPEST, Fill, say};
+use diagnostic::{DEEPEST, Fill, say};
 use strategy_syntax::{Pattern, PatternForm, ResolvedForm as Form, StrategyForm as Named};
 use term_core::{Kind, NoMemory, Term};
 use term_values::Value;
@@ -195,17 +195,19 @@ impl Teller<'_> {
                 others = others.saturating_add(1);
                 are_bodies = are_bodies && own.is_some() && own == alternative.number();
             } else if said < most {
-                self.hint.words("\n    ");
+                self.hint.note();
+
                 self.say_alternative(*alternative);
                 self.say_why(*alternative, term);
                 said = said.saturating_add(1);
             }
         }
         let separator = match place.node {
-            _ if !are_bodies => "\n    alternatives for other terms: ",
-            Some(_) => "\n    other rules of that name: ",
-            None => "\n    rules for other terms: ",
+            _ if !are_bodies => "alternatives for other terms: ",
+            Some(_) => "other rules of that name: ",
+            None => "rules for other terms: ",
         };
+        self.hint.note();
         self.say_others(found, term, are_bodies, separator);
         if others > LISTED {
             let more = others.saturating_sub(LISTED) as u64;
@@ -228,7 +230,7 @@ impl Teller<'_> {
                 self.hint.words(separator);
                 match other {
                     Alternative::Body(body) if are_bodies => {
-                        say!(self.hint; "{}", Fill::Line(body.line()));
+                        say!(self.hint; "{}", Fill::LineOf(body.spot()));
                     }
                     _ => self.say_alternative(*other),
                 }
@@ -244,7 +246,7 @@ impl Teller<'_> {
             Alternative::Strategy(part) => say!(self.hint; "{}", Fill::Strategy(part.named)),
             Alternative::Body(body) => {
                 self.say_definition(body.number);
-                say!(self.hint; " of {}", Fill::Line(body.line()));
+                say!(self.hint; " of {}", Fill::LineOf(body.spot()));
             }
         }
     }

@@ -4,9 +4,10 @@ use crate::about::About;
 use crate::observing::{Observer, RunRecord, Wanted};
 use crate::spending::sum;
 use crate::telling::Teller;
-use hint_text::{CommandParts, Fill, Hint, ScriptCommand, parts_of, say};
-use prim_core::{Meaning, Primitives};
-use session_history::{CheckedTexts, Refusal, Timeline};
+use diagnostic::{Code, Diagnostic, Fill, Origin, Severity, say};
+use hint_text::{CommandParts, Ground, ScriptCommand};
+use prim_core::Meaning;
+use session_history::{Refusal, Timeline};
 use std::alloc::Global;
 use strategy_check::resolve;
 use strategy_machine::Host;
@@ -15,18 +16,8 @@ use strategy_run::{Ended, plan_patch_seen};
 use term_core::{MAX_HEIGHT, NoMemory, Term};
 use term_paths::at;
 
-/// What a session runs commands with.
-#[derive(Drop)]
-pub struct Ground<'a, M: Meaning> {
-    pub history: &'a Timeline,
-    /// The modules that were checked last, if they are kept.
-    pub modules: Option<&'a CheckedTexts>,
-    pub primitives: &'a Primitives<M>,
-}
-
-/// At most eight lines on why the run of a refused command ended as it did, each with a line feed
-/// before it; nothing if the refusal is none of a run. The command is run again, in its session,
-/// which is left as it is.
+/// Adds at most eight lines on why the run of a refused command ended as it did; nothing if the refusal
+/// is none of a run. The command is run again, in its session, which is left as it is.
 ///
 /// Errors: `NoMemory` if memory can't grow.
 pub fn explain_run<'a, M: Meaning>(
@@ -34,27 +25,29 @@ pub fn explain_run<'a, M: Meaning>(
     ground: &Ground<'a, M>,
     command: &ScriptCommand<'a>,
     refusal: &Refusal,
-) -> Result<Vec<u8>, NoMemory> {
+    hint: Diagnostic,
+) -> Result<Diagnostic, NoMemory> {
     let wanted = match refusal {
         Refusal::Fails => Wanted::Failure,
         Refusal::Spent => Wanted::Spending,
         Refusal::Big => Wanted::End,
-        _ => return Ok(Vec::new(alloc)),
+        _ => return Ok(hint),
     };
-    look_at_own(alloc, ground, command, wanted)
+    look_at_own(alloc, ground, command, wanted, hint)
 }
 
-/// At most three lines on the rule that came nearest to a match in an accepted command that
-/// replaced nothing, each with a line feed before it; nothing if no rule of the user matched a root
-/// without matching all. The command is run again, in the session after it.
+/// Adds at most three lines on the rule that came nearest to a match in an accepted command that
+/// replaced nothing; nothing if no rule of the user matched a root without matching all. The command
+/// is run again, in the session after it.
 ///
 /// Errors: `NoMemory` if memory can't grow.
 pub fn explain_nothing<'a, M: Meaning>(
     alloc: Global,
     ground: &Ground<'a, M>,
     command: &ScriptCommand<'a>,
-) -> Result<Vec<u8>, NoMemory> {
-    look_at_own(alloc, ground, command, Wanted::Nearest)
+    hint: Diagnostic,
+) -> Result<Diagnostic, NoMemory> {
+    look_at_own(alloc, ground, command, Wanted::Nearest, hint)
 }
 
 /// Two lines on where the steps of an accepted command went that applied a strategy to this tree;
@@ -66,27 +59,22 @@ pub fn profile_run<'a, M: Meaning>(
     ground: &Ground<'a, M>,
     command: &ScriptCommand<'a>,
     tree: &'a Term,
-) -> Result<Vec<u8>, NoMemory> {
-    look_at(
-        alloc,
-        ground,
-        command,
-        &parts_of(command.text),
-        tree,
-        Wanted::Steps,
-    )
+) -> Result<Diagnostic, NoMemory> {
+    let code = Code {
+        number: 0,
+        word: "steps",
+    };
+    let origin = Origin::Line(command.line);
+    let hint = Diagnostic::new(alloc, Severity::Profile, code, origin);
+    look_at(alloc, ground, command, tree, Wanted::Steps, hint)
 }
 
-/// The tree that the command applies a strategy to, if it does.
+/// The tree that the command of these parts applies a strategy to, if it does.
 pub fn tree_of<'a>(
     alloc: Global,
     history: &'a Timeline,
-    command: &ScriptCommand<'_>,
+    parts: &CommandParts<'_>,
 ) -> Option<&'a Term> {
-    tree_in(alloc, history, &parts_of(command.text))
-}
-
-fn tree_in<'a>(alloc: Global, history: &'a Timeline, parts: &CommandParts<'_>) -> Option<&'a Term> {
     if parts.is_strategy() {
         parts.tree(alloc, history)
     } else {
@@ -100,29 +88,29 @@ fn look_at_own<'a, M: Meaning>(
     ground: &Ground<'a, M>,
     command: &ScriptCommand<'a>,
     wanted: Wanted,
-) -> Result<Vec<u8>, NoMemory> {
-    let parts = parts_of(command.text);
-    match tree_in(alloc, ground.history, &parts) {
-        Some(tree) => look_at(alloc, ground, command, &parts, tree, wanted),
-        None => Ok(Vec::new(alloc)),
+    hint: Diagnostic,
+) -> Result<Diagnostic, NoMemory> {
+    match tree_of(alloc, ground.history, &command.parts) {
+        Some(tree) => look_at(alloc, ground, command, tree, wanted, hint),
+        None => Ok(hint),
     }
 }
 
-// Runs the command of these parts on the tree, and says what is wanted.
+// Runs the command on the tree, and says what is wanted.
 fn look_at<'a, M: Meaning>(
     alloc: Global,
     ground: &Ground<'a, M>,
     command: &ScriptCommand<'a>,
-    parts: &CommandParts<'a>,
     tree: &'a Term,
     wanted: Wanted,
-) -> Result<Vec<u8>, NoMemory> {
+    hint: Diagnostic,
+) -> Result<Diagnostic, NoMemory> {
+    let parts = &command.parts;
     let path = parts.path_or_root(alloc)?;
-    let (Some(term), Some(modules)) = (at(tree, &path), ground.modules) else {
-        return Ok(Vec::new(alloc));
+    let (Some(term), Some(modules)) = (at(tree, &path), ground.kept) else {
+        return Ok(hint);
     };
     let asked = Asked {
-        line: command.line,
         steps: parts.number_or(command.budget),
         wanted,
     };
@@ -139,18 +127,17 @@ fn look_at<'a, M: Meaning>(
                     term,
                     path: path.parts(),
                 };
-                tell(ground, about, asked)
+                tell(ground, about, asked, hint)
             }
-            Err(_) => Ok(Vec::new(alloc)),
+            Err(_) => Ok(hint),
         },
-        Err(_) => Ok(Vec::new(alloc)),
+        Err(_) => Ok(hint),
     }
 }
 
-// What is asked of a command on this line that may take so many steps.
+// What is asked of a command that may take so many steps.
 #[derive(Clone, Copy)]
 struct Asked {
-    line: u64,
     steps: u64,
     wanted: Wanted,
 }
@@ -159,14 +146,11 @@ fn tell<M: Meaning>(
     ground: &Ground<'_, M>,
     about: About<'_>,
     asked: Asked,
-) -> Result<Vec<u8>, NoMemory> {
-    let mut teller = Teller {
-        about,
-        hint: Hint::new(about.alloc),
-    };
-    let told = tell_run(&mut teller, ground, asked);
-    teller.hint.keep(told);
-    teller.hint.into_text()
+    hint: Diagnostic,
+) -> Result<Diagnostic, NoMemory> {
+    let mut teller = Teller { about, hint };
+    tell_run(&mut teller, ground, asked)?;
+    Ok(teller.hint)
 }
 
 fn tell_run<M: Meaning>(
@@ -189,7 +173,7 @@ fn tell_kept<M: Meaning>(
         (Wanted::Spending, _, _) => teller.say_spent(kept),
         (Wanted::Steps, _, _) => {
             let steps = Fill::Count(sum(&kept.spent), "step");
-            say!(teller.hint; "line {}: {}", Fill::Number(asked.line), steps);
+            say!(teller.hint; "{}", steps);
             teller.say_shares(&kept.spent);
         }
         (Wanted::Nearest, _, _) => {

@@ -6,7 +6,7 @@ use crate::finding::{is_same, is_search};
 use crate::matching::{matched, may_match};
 use crate::observing::{Bound, Stand};
 use crate::telling::{Teller, kind_of};
-use hint_text::{Fill, say};
+use diagnostic::{Fill, say};
 use strategy_syntax::{Pattern, Strategy, StrategyForm};
 use term_core::{Kind, NoMemory};
 use term_paths::at_parts;
@@ -33,40 +33,53 @@ impl Teller<'_> {
             (Some(nearest), _)
                 if is_search || (furthest.is_none() && is_elsewhere(nearest, failure)) => {
                 if !is_search {
-                    self.say_failed(failure, "\n    ", cause.is_none());
+                    self.say_failed(failure, Some(""), cause.is_none());
                 }
                 self.say_nearest(nearest);
                 if let Some(cause) = other {
-                    say!(self.hint; "\n    got furthest, in {}: ", steps);
-                    self.say_failed(cause, "", false);
+                    self.hint.note();
+                    say!(self.hint; "got furthest, in {}: ", steps);
+                    self.say_failed(cause, None, false);
                 }
             }
             (_, Some(cause)) if is_search && furthest.is_some() => {
-                say!(self.hint; "\n    got furthest, in {}: ", steps);
-                self.say_failed(cause, "", false);
+                self.hint.note();
+                say!(self.hint; "got furthest, in {}: ", steps);
+                self.say_failed(cause, None, false);
             }
             (_, Some(cause)) if !is_repeated(cause, failure) => {
-                self.say_failed(failure, "\n    ", false);
-                say!(self.hint; "\n    tried before that, and got furthest, in {}: ", steps);
-                self.say_failed(cause, "", false);
+                self.say_failed(failure, Some(""), false);
+                self.hint.note();
+                say!(self.hint; "tried before that, and got furthest, in {}: ", steps);
+                self.say_failed(cause, None, false);
             }
-            _ => self.say_failed(failure, "\n    ", true),
+            _ => self.say_failed(failure, Some(""), true),
         }
     }
 
     /// Says which rule came nearest to a match.
     pub fn say_nearest(&mut self, nearest: &Stand<'_>) {
-        self.say_failed(nearest, "\n    nearest to a match: ", false);
+        self.say_failed(nearest, Some("nearest to a match: "), false);
     }
 
-    /// Says what failed, where, and why, after these words.
-    pub fn say_failed(&mut self, stand: &Stand<'_>, before: &'static str, with_alternatives: bool) {
+    /// Says what failed, where, and why, on a line of its own that begins with these words, if there
+    /// are any.
+    pub fn say_failed(
+        &mut self,
+        stand: &Stand<'_>,
+        before: Option<&'static str>,
+        with_alternatives: bool,
+    ) {
         if let Some(place) = stand.place {
-            self.hint.words(before);
+            if let Some(before) = before {
+                self.hint.note();
+                self.hint.words(before);
+            }
             if stand.is_rest {
                 let _ = self.say_stand(place, stand, "gives");
+                self.hint.note();
                 self.hint
-                    .words("\n    that is no list, and is given for the rest of one");
+                    .words("that is no list, and is given for the rest of one");
             } else if self.say_stand(place, stand, "fails on") {
                 let told = self.say_reason(place, stand);
                 if with_alternatives {
@@ -84,10 +97,12 @@ impl Teller<'_> {
     /// Says which strategy made a term that is too big, and where.
     pub fn say_big(&mut self, stand: &Stand<'_>) {
         if let Some(place) = stand.place {
-            self.hint.words("\n    ");
+            self.hint.note();
+
             let _ = self.say_stand(place, stand, "makes it from");
             let size = Fill::Count(stand.focus.size(), "term");
-            say!(self.hint; "\n    what it makes it from has {} in it", size);
+            self.hint.note();
+            say!(self.hint; "what it makes it from has {} in it", size);
         }
         self.say_calls(stand);
     }
@@ -127,8 +142,10 @@ impl Teller<'_> {
         };
         self.hint.words(", in ");
         self.say_definition(body.number);
+        let name = body.definition.name().bytes();
+        self.hint.note_cause(body.module, name);
         let module = Fill::Quoted(body.module);
-        say!(self.hint; " of the module {}, {} of its text", module, Fill::Line(body.line()));
+        say!(self.hint; " of the module {}, {} of its text", module, Fill::LineOf(body.spot()));
         is_shown
     }
 
@@ -140,7 +157,8 @@ impl Teller<'_> {
         if let Some(guard) = node.guard
             && let StrategyForm::Guard(parts) = guard.form()
         {
-            say!(self.hint; "\n    {} succeeds", Fill::Strategy(&parts.0));
+            self.hint.note();
+            say!(self.hint; "{} succeeds", Fill::Strategy(&parts.0));
             return true;
         }
         if let Some(left) = matched(node.part) {
@@ -148,15 +166,18 @@ impl Teller<'_> {
         }
         match node.part.named.form() {
             StrategyForm::TailCongruence(parts, _) => {
-                self.hint.words("\n    it takes ");
+                self.hint.note();
+                self.hint.words("it takes ");
                 self.say_list(parts.len());
             }
             StrategyForm::Congruence(head, parts) => {
-                self.hint.words("\n    it takes ");
+                self.hint.note();
+                self.hint.words("it takes ");
                 self.hint.root(kind_of(head), parts.len());
             }
             StrategyForm::Use(name, parts, _) => {
-                self.hint.words("\n    it takes ");
+                self.hint.note();
+                self.hint.words("it takes ");
                 self.hint.root(Kind::Application(name), parts.len());
             }
             StrategyForm::Id
@@ -185,7 +206,8 @@ impl Teller<'_> {
         let Some(miss) = &stand.miss else {
             return false;
         };
-        say!(self.hint; "\n    {}", Fill::Pattern(pattern));
+        self.hint.note();
+        say!(self.hint; "{}", Fill::Pattern(pattern));
         let said = self.say_miss(pattern, miss);
         self.hint.keep(said);
         true
@@ -193,7 +215,8 @@ impl Teller<'_> {
 
     // Says what the first variables are bound to.
     fn say_bound(&mut self, bound: &[Bound<'_>]) {
-        let mut separator = "\n    ";
+        self.hint.note();
+        let mut separator = "";
         for it in bound.get(..SHOWN).unwrap_or(bound) {
             let name = Fill::Quoted(it.name.bytes());
             say!(self.hint; "{}{} is {}", Fill::Words(separator), name, Fill::Term(&it.term));

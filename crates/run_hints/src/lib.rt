@@ -13,4 +13,4 @@ mod observing;
 mod spending;
 mod telling;
 
-pub use explain::{Ground, explain_nothing, explain_run, profile_run, tree_of};
+pub use explain::{explain_nothing, explain_run, profile_run, tree_of};

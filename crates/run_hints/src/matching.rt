@@ -1,7 +1,7 @@
 //! What a strategy matches first, and how much of that matches a term.
 
 use crate::finding::Part;
-use hint_text::DEEPEST;
+use diagnostic::DEEPEST;
 use std::alloc::Global;
 use strategy_machine::Machine;
 use strategy_syntax::{

@@ -5,7 +5,7 @@ use crate::attempts::{Attempt, first_tried};
 use crate::causes::Causes;
 use crate::finding::{Part, is_search};
 use crate::matching::{Known, Miss, compare, matched, may_match};
-use hint_text::DEEPEST;
+use diagnostic::DEEPEST;
 use prim_core::Meaning;
 use strategy_machine::{Host, Machine, Next, Spot};
 use strategy_run::Look;

@@ -3,7 +3,7 @@
 use crate::matching::matched;
 use crate::observing::RunRecord;
 use crate::telling::Teller;
-use hint_text::{Fill, say};
+use diagnostic::{Fill, say};
 use term_core::NoMemory;
 
 // How many definitions are listed with their shares, how many of these are the user's, and how many
@@ -24,7 +24,8 @@ impl Teller<'_> {
         let Some(stand) = &kept.stand else {
             return;
         };
-        self.hint.words("\n    it stopped at ");
+        self.hint.note();
+        self.hint.words("it stopped at ");
         self.say_spot(&stand.spot);
         say!(self.hint; " with {}", Fill::Term(&stand.focus));
         let size = self.about.term.size();
@@ -42,7 +43,7 @@ impl Teller<'_> {
             self.hint.words("; ");
             self.say_definition(rule);
             if let Some(body) = self.about.body_with(rule, stand.strategy) {
-                say!(self.hint; " ({})", Fill::Line(body.line()));
+                say!(self.hint; " ({})", Fill::LineOf(body.spot()));
             }
             say!(self.hint; " succeeded most often, {}", Fill::Count(times, "time"));
         }
@@ -55,7 +56,8 @@ impl Teller<'_> {
             return self.hint.keep(Err(NoMemory));
         };
         let total = sum(spent);
-        let mut separator = "\n    the steps: ";
+        self.hint.note();
+        let mut separator = "the steps: ";
         let mut was_of_user = false;
         for said in 0..LISTED {
             let mut found = self.greatest(&left, false, false);
@@ -76,8 +78,19 @@ impl Teller<'_> {
             self.hint.words(separator);
             separator = ", ";
             self.say_definition(number);
+            self.note_share(number, own);
             let share = own.saturating_mul(100).checked_div(total).unwrap_or(0);
             say!(self.hint; " {} % ({})", Fill::Number(share), Fill::Number(own));
+        }
+    }
+
+    fn note_share(&mut self, number: usize, steps: u64) {
+        match self.about.body(number, 0) {
+            Some(body) => {
+                let name = body.definition.name().bytes();
+                self.hint.add_share(Some(name), steps);
+            }
+            None => self.hint.add_share(None, steps),
         }
     }
 
@@ -104,7 +117,8 @@ impl Teller<'_> {
 
     // Says which definitions are called, each once.
     fn say_repeated(&mut self, calls: &[usize]) {
-        let mut separator = "\n    the calls repeat: ";
+        self.hint.note();
+        let mut separator = "the calls repeat: ";
         let mut said = 0usize;
         for (number, definition) in calls.iter().enumerate() {
             let before = calls.get(..number).unwrap_or(&[]);

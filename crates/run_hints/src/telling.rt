@@ -2,7 +2,7 @@
 
 use crate::about::{About, Body, has_call};
 use crate::observing::{Called, Stand};
-use hint_text::{Fill, Hint, say};
+use diagnostic::{Diagnostic, Fill, say};
 use strategy_machine::Spot;
 use strategy_syntax::Head;
 use term_core::Kind;
@@ -10,16 +10,11 @@ use term_core::Kind;
 // The most definitions that are listed.
 const LISTED: usize = 5;
 
-// The most steps of a path that are shown, and how many of a longer one.
-const WHOLE: usize = 10;
-
-const FRONT: usize = 3;
-
 /// What is said so far of a run, and what it is said from.
 #[derive(Drop)]
 pub struct Teller<'a> {
     pub about: About<'a>,
-    pub hint: Hint,
+    pub hint: Diagnostic,
 }
 
 impl Teller<'_> {
@@ -34,18 +29,7 @@ impl Teller<'_> {
     /// Appends the path of the focus, or the front of a long one, and how much of the list there is
     /// before it.
     pub fn say_spot(&mut self, spot: &Spot) {
-        let (above, below) = (self.about.path, spot.path.as_slice());
-        let depth = above.len().saturating_add(below.len());
-        let shown = if depth > WHOLE { FRONT } else { WHOLE };
-        self.hint.words(if depth == 0 { "`/" } else { "`" });
-        for index in above.iter().chain(below).take(shown) {
-            say!(self.hint; "/{}", Fill::Number(*index as u64));
-        }
-        if depth > WHOLE {
-            say!(self.hint; "/..` (depth {})", Fill::Number(depth as u64));
-        } else {
-            self.hint.words("`");
-        }
+        self.hint.path(self.about.path, spot.path.as_slice());
         if spot.before > 0 {
             say!(self.hint; " after {}", Fill::Count(spot.before as u64, "element"));
         }
@@ -67,11 +51,12 @@ impl Teller<'_> {
                 break;
             };
             if !has_call(inner, call.definition) {
-                self.hint.words(if said == 0 {
-                    "\n    called by, innermost first: "
+                if said == 0 {
+                    self.hint.note();
+                    self.hint.words("called by, innermost first: ");
                 } else {
-                    ", "
-                });
+                    self.hint.words(", ");
+                }
                 if said == LISTED {
                     self.hint.words("..");
                     return;
@@ -107,7 +92,7 @@ impl Teller<'_> {
         if let Some(body) = body
             && !body.is_of_library()
         {
-            say!(self.hint; " ({}", Fill::Line(body.line()));
+            say!(self.hint; " ({}", Fill::LineOf(body.spot()));
             if body.module != module {
                 say!(self.hint; " of {}", Fill::Quoted(body.module));
             }
