@@ -70,11 +70,12 @@ uint32_t stratbench_show(void *handle, const uint8_t *name, size_t name_length);
  * returns their length. They stay until the next script, load or tree that is shown. */
 size_t stratbench_copy(void *handle, uint8_t *out, size_t room);
 
-/* Says whether the calls that follow are to be explained: not if `explains` is 0, and not in a new session. */
+/* Says whether the calls that follow are to be explained: not if `explains` is 0, and not in a new session; as JSON if it is 2,
+ * else as text. */
 uint32_t stratbench_explain(void *handle, uint32_t explains);
 
 /* Copies what was said of the last call as stratbench_copy does its answers: lines on each refused command or load, and on what
- * an accepted one may not be meant to say, as `stratbench --explain` writes them. Lines for which there was no memory are left
+ * an accepted one may not be meant to say, as `stratbench --explain` or `--explain=json` writes them. Lines for which there was no memory are left
  * out. */
 size_t stratbench_hints(void *handle, uint8_t *out, size_t room);
 

@@ -5,8 +5,8 @@ ghost use Rattle.stratbench.specs.Files.{Loads};
 
 use crate::status::FileFault;
 use command_line::Load;
+use observing::{LoadedText, faulty_module};
 use prim_core::Meaning;
-use script_hints::has_fault;
 use session_core::{Refusal, Session};
 use session_loading::{load_module, load_tree};
 use std::alloc::Global;
@@ -50,24 +50,26 @@ pub fn read_file(rt: &HostRuntime, file: &str) -> Result<Vec<u8>, FileFault> {
     }
 }
 
-/// The module with the fault that the refusal names. Of several of one name that is the last, whose
-/// text the session has.
+/// What a file loads, as an observer sees it.
+pub fn loaded_text<'a>(load: &'a Load<'_>, text: &'a [u8]) -> LoadedText<'a> {
+    LoadedText {
+        word: match load {
+            Load::Module(_) => "module",
+            Load::Tree(_) => "tree",
+        },
+        name: load.name().bytes(),
+        file: load.file(),
+        text,
+    }
+}
+
+/// The module that has the first fault. Of several of one name that is the last, whose text the
+/// session has.
 pub fn with_fault<'s, 'l, 'a, M: Meaning>(
     alloc: Global,
     session: &Session<M>,
     modules: &'s [Loaded<'l, 'a>],
-    refusal: &Refusal,
 ) -> Option<&'s Loaded<'l, 'a>> {
-    let mut found: Option<&'s Loaded<'l, 'a>> = None;
-    for module in modules {
-        let name = module.load.name();
-        let is_found = match found {
-            Some(other) => other.load.name() == name,
-            None => has_fault(alloc, session.timeline(), name, refusal) == Ok(true),
-        };
-        if is_found {
-            found = Some(module);
-        }
-    }
-    found
+    let faulty = faulty_module(alloc, session)?;
+    modules.iter().rfind(|it| *it.load.name() == faulty)
 }

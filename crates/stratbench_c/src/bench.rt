@@ -92,10 +92,10 @@ impl Work {
     }
 
     /// Says how a load ended. The answer is the refusal, if there is one. `word` is the command
-    /// that would load this text, with a blank.
+    /// that would load this text.
     pub fn tell(
         &mut self,
-        word: &[u8],
+        word: &'static str,
         name: &[u8],
         text: &[u8],
         outcome: Result<(), Refusal>,
@@ -179,20 +179,20 @@ pub fn copy_hints(bench: &mut Bench, out: &mut [u8]) -> usize
     }
 }
 
-/// Says whether the calls that follow are to be explained: not if `explains` is 0. Returns the
-/// number of the status.
+/// Says whether the calls that follow are to be explained: not if `explains` is 0, as JSON if it is
+/// 2, else as text. Returns the number of the status.
 pub fn explain_calls(bench: &mut Bench, explains: u32) -> u32
     ensures { TellsExplained result bench.old.work bench.new.work }
 {
-    explained_at(bench, explains != 0).code()
+    explained_at(bench, explains != 0, explains == 2).code()
 }
 
-fn explained_at(bench: &mut Bench, explains: bool) -> Status
+fn explained_at(bench: &mut Bench, explains: bool, as_json: bool) -> Status
     ensures { ExplainedAt result bench.old.work bench.new.work }
 {
     match &mut bench.work {
         Some(work) => {
-            work.hints.explain(explains);
+            work.hints.explain(explains, as_json);
             Status::Accepted
         }
         None => Status::NoMemory,

@@ -55,7 +55,7 @@ fn module_at(bench: &mut Bench, name: &[u8], text: &[u8]) -> Status
     match &mut bench.work {
         Some(work) => {
             let outcome = load_named_module(alloc, &mut work.session, name, text);
-            work.tell(b"module ", name, text, outcome)
+            work.tell("module", name, text, outcome)
         }
         None => Status::NoMemory,
     }
@@ -76,7 +76,7 @@ fn tree_at(bench: &mut Bench, name: &[u8], text: &[u8]) -> Status
     match &mut bench.work {
         Some(work) => {
             let outcome = load_named_tree(alloc, &mut work.session, name, text);
-            work.tell(b"tree ", name, text, outcome)
+            work.tell("tree", name, text, outcome)
         }
         None => Status::NoMemory,
     }
