@@ -228,3 +228,33 @@ def shown(command, most=70):
     """Returns the command on one line, cut where it is long."""
     text = command.decode(errors="backslashreplace").replace("\n", " ")
     return text if len(text) <= most else text[: most - 3] + "..."
+
+
+def misfits(value, schema, whole=None, where="it"):
+    """Says where a value doesn't fit a JSON schema, of which the words are known that ours has."""
+    whole = whole or schema
+    if "$ref" in schema:
+        name = schema["$ref"].removeprefix("#/$defs/")
+        yield from misfits(value, whole["$defs"][name], whole, where)
+        return
+    kinds = {"object": dict, "array": list, "string": str, "integer": int, "null": type(None)}
+    wanted = schema.get("type", [])
+    wanted = [wanted] if isinstance(wanted, str) else wanted
+    if wanted and (isinstance(value, bool) or not isinstance(value, tuple(kinds[it] for it in wanted))):
+        yield f"{where} is no {' or '.join(wanted)}"
+        return
+    if "enum" in schema and value not in schema["enum"]:
+        yield f"{where} is {value!r}"
+    if isinstance(value, int) and not schema.get("minimum", value) <= value <= schema.get("maximum", value):
+        yield f"{where} is {value}"
+    if isinstance(value, list):
+        if not schema.get("minItems", 0) <= len(value) <= schema.get("maxItems", len(value)):
+            yield f"{where} has {len(value)} items"
+        for number, item in enumerate(value):
+            yield from misfits(item, schema.get("items", {}), whole, f"{where}[{number}]")
+    if isinstance(value, dict):
+        known = schema.get("properties", {})
+        yield from (f"{where} has no {name}" for name in schema.get("required", ()) if name not in value)
+        yield from (f"{where} has {name}" for name in value if schema.get("additionalProperties") is False and name not in known)
+        for name, item in value.items():
+            yield from misfits(item, known.get(name, {}), whole, f"{where}.{name}")

@@ -213,7 +213,7 @@ module _ (flag : Text) where
   all_fit : is_option flag ≡ false → AllFit rules
   all_fit free =
       let is = each_other option_names free in
-      (flag_fits (codes "library") None, (other_fits steps_rule is.0 (λ values rows. refl), (other_fits max_steps_rule is.1.0 (λ values rows. refl), (other_fits max_terms_rule is.1.1.0 (λ values rows. refl), (flag_fits (codes "stop") None, (flag_fits (codes "lines") None, (flag_fits (codes "explain") None, (flag_fits (codes "profile") None, (flag_fits (codes "interactive") (Some 105), (more_fits (files_rule (codes "module")) is.1.1.1.0 (λ values rows. refl), (more_fits (files_rule (codes "tree")) is.1.1.1.1.0 (λ values rows. refl), (more_fits (files_rule (codes "write")) is.1.1.1.1.1.0 (λ values rows. refl), (flag_fits (codes "pretty") None, (other_fits file_rule is.1.1.1.1.1.1.0 (λ values rows. refl), (request_fits (with_index 2 (filled help_rule)) is.1.1.1.1.1.1.1.0 (λ values rows. refl), (request_fits (with_index 2 (filled version_rule)) is.1.1.1.1.1.1.1.1.0 (λ values rows. refl), tt))))))))))))))))
+      (flag_fits (codes "library") None, (other_fits steps_rule is.0 (λ values rows. refl), (other_fits max_steps_rule is.1.0 (λ values rows. refl), (other_fits max_terms_rule is.1.1.0 (λ values rows. refl), (flag_fits (codes "stop") None, (flag_fits (codes "lines") None, (flag_fits (codes "explain") None, (flag_fits (codes "profile") None, (flag_fits (codes "interactive") (Some 105), (more_fits (files_rule (codes "module")) is.1.1.1.0 (λ values rows. refl), (more_fits (files_rule (codes "tree")) is.1.1.1.1.0 (λ values rows. refl), (more_fits (files_rule (codes "write")) is.1.1.1.1.1.0 (λ values rows. refl), (flag_fits (codes "pretty") None, (flag_fits (codes "explain-json") None, (flag_fits (codes "check") None, (other_fits file_rule is.1.1.1.1.1.1.0 (λ values rows. refl), (request_fits (with_index 2 (filled help_rule)) is.1.1.1.1.1.1.1.0 (λ values rows. refl), (request_fits (with_index 2 (filled version_rule)) is.1.1.1.1.1.1.1.1.0 (λ values rows. refl), tt))))))))))))))))))
 
   -- ---- the rows at the end
 
@@ -550,28 +550,36 @@ by_settling flag free has = flag_is_given flag (all_fit flag free) (λ rows good
 
 pub library_is_given : IsReadAsGiven (codes "library")
 library_is_given = by_settling (codes "library") refl
-    (inl ((None, refl), (refl, (refl, (refl, (refl, (refl, (refl, (refl, (refl, (refl, (refl, (refl, (refl, (refl, (refl, (refl, tt)))))))))))))))))
+    (inl ((None, refl), (refl, (refl, (refl, (refl, (refl, (refl, (refl, (refl, (refl, (refl, (refl, (refl, (refl, (refl, (refl, (refl, (refl, tt)))))))))))))))))))
 
 pub stop_is_given : IsReadAsGiven (codes "stop")
 stop_is_given = by_settling (codes "stop") refl
-    (inr (refl, inr (refl, inr (refl, inr (refl, inl ((None, refl), (refl, (refl, (refl, (refl, (refl, (refl, (refl, (refl, (refl, (refl, (refl, tt)))))))))))))))))
+    (inr (refl, inr (refl, inr (refl, inr (refl, inl ((None, refl), (refl, (refl, (refl, (refl, (refl, (refl, (refl, (refl, (refl, (refl, (refl, (refl, (refl, tt)))))))))))))))))))
 
 pub lines_is_given : IsReadAsGiven (codes "lines")
 lines_is_given = by_settling (codes "lines") refl
-    (inr (refl, inr (refl, inr (refl, inr (refl, inr (refl, inl ((None, refl), (refl, (refl, (refl, (refl, (refl, (refl, (refl, (refl, (refl, (refl, tt)))))))))))))))))
+    (inr (refl, inr (refl, inr (refl, inr (refl, inr (refl, inl ((None, refl), (refl, (refl, (refl, (refl, (refl, (refl, (refl, (refl, (refl, (refl, (refl, (refl, tt)))))))))))))))))))
 
 pub explain_is_given : IsReadAsGiven (codes "explain")
 explain_is_given = by_settling (codes "explain") refl
-    (inr (refl, inr (refl, inr (refl, inr (refl, inr (refl, inr (refl, inl ((None, refl), (refl, (refl, (refl, (refl, (refl, (refl, (refl, (refl, (refl, tt)))))))))))))))))
+    (inr (refl, inr (refl, inr (refl, inr (refl, inr (refl, inr (refl, inl ((None, refl), (refl, (refl, (refl, (refl, (refl, (refl, (refl, (refl, (refl, (refl, (refl, tt)))))))))))))))))))
 
 pub profile_is_given : IsReadAsGiven (codes "profile")
 profile_is_given = by_settling (codes "profile") refl
-    (inr (refl, inr (refl, inr (refl, inr (refl, inr (refl, inr (refl, inr (refl, inl ((None, refl), (refl, (refl, (refl, (refl, (refl, (refl, (refl, (refl, tt)))))))))))))))))
+    (inr (refl, inr (refl, inr (refl, inr (refl, inr (refl, inr (refl, inr (refl, inl ((None, refl), (refl, (refl, (refl, (refl, (refl, (refl, (refl, (refl, (refl, (refl, tt)))))))))))))))))))
 
 pub interactive_is_given : IsReadAsGiven (codes "interactive")
 interactive_is_given = by_settling (codes "interactive") refl
-    (inr (refl, inr (refl, inr (refl, inr (refl, inr (refl, inr (refl, inr (refl, inr (refl, inl ((Some 105, refl), (refl, (refl, (refl, (refl, (refl, (refl, (refl, tt)))))))))))))))))
+    (inr (refl, inr (refl, inr (refl, inr (refl, inr (refl, inr (refl, inr (refl, inr (refl, inl ((Some 105, refl), (refl, (refl, (refl, (refl, (refl, (refl, (refl, (refl, (refl, tt)))))))))))))))))))
 
 pub pretty_is_given : IsReadAsGiven (codes "pretty")
 pretty_is_given = by_settling (codes "pretty") refl
-    (inr (refl, inr (refl, inr (refl, inr (refl, inr (refl, inr (refl, inr (refl, inr (refl, inr (refl, inr (refl, inr (refl, inr (refl, inl ((None, refl), (refl, (refl, (refl, tt)))))))))))))))))
+    (inr (refl, inr (refl, inr (refl, inr (refl, inr (refl, inr (refl, inr (refl, inr (refl, inr (refl, inr (refl, inr (refl, inr (refl, inl ((None, refl), (refl, (refl, (refl, (refl, (refl, tt)))))))))))))))))))
+
+pub explain_json_is_given : IsReadAsGiven (codes "explain-json")
+explain_json_is_given = by_settling (codes "explain-json") refl
+    (inr (refl, inr (refl, inr (refl, inr (refl, inr (refl, inr (refl, inr (refl, inr (refl, inr (refl, inr (refl, inr (refl, inr (refl, inr (refl, inl ((None, refl), (refl, (refl, (refl, (refl, tt)))))))))))))))))))
+
+pub check_is_given : IsReadAsGiven (codes "check")
+check_is_given = by_settling (codes "check") refl
+    (inr (refl, inr (refl, inr (refl, inr (refl, inr (refl, inr (refl, inr (refl, inr (refl, inr (refl, inr (refl, inr (refl, inr (refl, inr (refl, inr (refl, inl ((None, refl), (refl, (refl, (refl, tt)))))))))))))))))))

@@ -15,6 +15,8 @@ record Row : Type 0 where
   profile : Bool
   interactive : Bool
   pretty : Bool
+  explain_json : Bool
+  check : Bool
   file : Option Text
   steps : Option Text
   modules : List Text
@@ -31,6 +33,8 @@ row words = record {
   profile = is_given (codes "profile") (given words);
   interactive = is_given (codes "interactive") (given words);
   pretty = is_given (codes "pretty") (given words);
+  explain_json = is_given (codes "explain-json") (given words);
+  check = is_given (codes "check") (given words);
   file = first_of (codes "file") (given words);
   steps = one_of (codes "steps") (given words);
   modules = values (codes "module") (given words);
@@ -48,6 +52,8 @@ pub nothing : row (codes "stratbench" ∷ [])
       profile = false;
       interactive = false;
       pretty = false;
+      explain_json = false;
+      check = false;
       file = None;
       steps = Some (codes "100000");
       modules = [];
@@ -58,7 +64,7 @@ pub nothing : row (codes "stratbench" ∷ [])
 unfolding clap_on_literals
 nothing = refl
 
-pub all : row (codes "stratbench" ∷ codes "--steps=7" ∷ codes "a" ∷ codes "--lines" ∷ codes "--explain" ∷ codes "--profile" ∷ codes "--stop" ∷ codes "--library" ∷ codes "-i" ∷ [])
+pub all : row (codes "stratbench" ∷ codes "--steps=7" ∷ codes "a" ∷ codes "--lines" ∷ codes "--explain" ∷ codes "--explain-json" ∷ codes "--check" ∷ codes "--profile" ∷ codes "--stop" ∷ codes "--library" ∷ codes "-i" ∷ [])
     ≡ record {
       library = true;
       stop = true;
@@ -67,6 +73,8 @@ pub all : row (codes "stratbench" ∷ codes "--steps=7" ∷ codes "a" ∷ codes 
       profile = true;
       interactive = true;
       pretty = false;
+      explain_json = true;
+      check = true;
       file = Some (codes "a");
       steps = Some (codes "7");
       modules = [];
@@ -86,6 +94,8 @@ pub files : row (codes "stratbench" ∷ codes "--tree=t=a" ∷ codes "--module" 
       profile = false;
       interactive = false;
       pretty = true;
+      explain_json = false;
+      check = false;
       file = None;
       steps = Some (codes "100000");
       modules = codes "m=b" ∷ [];
@@ -105,6 +115,8 @@ pub after_dashes : row (codes "stratbench" ∷ codes "--steps" ∷ codes "1" ∷
       profile = false;
       interactive = false;
       pretty = false;
+      explain_json = false;
+      check = false;
       file = Some (codes "--stop");
       steps = Some (codes "1");
       modules = [];

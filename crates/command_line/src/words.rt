@@ -62,6 +62,10 @@ pub struct CommandLine<'a> {
     pub writes: Vec<Named<'a>>,
     /// Whether they are written over lines.
     pub pretty: bool,
+    /// Whether refused commands are explained, and all that is said is JSON.
+    pub explain_json: bool,
+    /// Whether modules are only looked at, and the file is one of them.
+    pub check: bool,
     /// The file that the script is read from, or none for standard input.
     pub file: Option<&'a str>,
 }
@@ -90,9 +94,9 @@ impl CommandLine<'_> {
 
     /// Whether refused commands are explained.
     pub fn explains(&self) -> bool
-        ensures { result ≡ (self.now.explain || self.now.interactive) }
+        ensures { result ≡ (self.now.explain || (self.now.explain_json || (self.now.interactive || self.now.check))) }
     {
-        self.explain || self.interactive
+        self.explain || self.explain_json || self.interactive || self.check
     }
 }
 
@@ -131,6 +135,10 @@ pub fn arguments<'a, S: AsStr>(alloc: Global, words: &'a [S]) -> Result<CommandL
         ≡ is_given (codes "interactive") (given (map S.text words.now))) }
     ensures pretty { IfOk result (λ arguments. arguments.pretty
         ≡ is_given (codes "pretty") (given (map S.text words.now))) }
+    ensures explain_json { IfOk result (λ arguments. arguments.explain_json
+        ≡ is_given (codes "explain-json") (given (map S.text words.now))) }
+    ensures check { IfOk result (λ arguments. arguments.check
+        ≡ is_given (codes "check") (given (map S.text words.now))) }
 
     // The files of each option are those of its values, in order.
     ensures modules { IfOk result (λ arguments. map as_given (modules_of arguments.loads.items)
@@ -160,6 +168,8 @@ pub fn arguments<'a, S: AsStr>(alloc: Global, words: &'a [S]) -> Result<CommandL
             loads,
             writes,
             pretty: matches.get_flag("pretty"),
+            explain_json: matches.get_flag("explain-json"),
+            check: matches.get_flag("check"),
             file: matches.get_str("file"),
         }),
         Err(Untaken::Malformed(option, value)) => {
@@ -265,6 +275,16 @@ fn command<'a>(alloc: Global) -> Result<Command<'a>, AllocError>
             alloc,
             "pretty",
             "Writes trees over lines, as the command `pretty` shows them",
+        ))?
+        .arg(flag(
+            alloc,
+            "explain-json",
+            "As --explain, but says everything as JSON, a line each; --explain=json is the same",
+        ))?
+        .arg(flag(
+            alloc,
+            "check",
+            "Says what is wrong with the modules, and with FILE as one more, and runs nothing",
         ))?
         .arg(file_name(alloc))
 }

@@ -8,18 +8,21 @@ ghost use Rattle.term_core.specs.declared.TheConstants.{MAX_ROOM};
 ghost use Rattle.command_line.specs.Line.{modules_of};
 ghost use Rattle.stratbench.specs.Files.{Loads, LoadsAll, LoadsFile, LoadsModules, SetsAll};
 
+mod checking;
 mod dialogue;
 mod explaining;
 mod loading;
 mod status;
 mod writing;
 
+use checking::check_modules;
 use clap::Error;
 use clap::error::ErrorKind;
 use command_line::{CommandLine, Load, arguments};
 use dialogue::Prompting;
-use explaining::{Explaining, Wanted, explain_load, warn_of_load};
-use loading::{Loaded, load_text, read_file, with_fault};
+use explaining::{Explaining, Shown};
+use loading::{Loaded, load_text, loaded_text, read_file, with_fault};
+use observing::{Form, Observer, Wanted};
 use prim_core::{Meaning, Primitive, Primitives};
 use prim_extended::extended_primitives;
 use script_core::{
@@ -74,9 +77,19 @@ fn start_line(rt: &HostRuntime, line: &CommandLine<'_>) -> u8
     run_line(rt, line)
 }
 
-// The words of the command line, which have to be text.
+// The words of the command line, which have to be text. `--explain=json` is another spelling of
+// `--explain-json`.
 fn words(rt: &HostRuntime) -> io::Result<Vec<String>> {
-    Ok(env::args(rt)?.collect(rt.alloc())?)
+    let mut words: Vec<String> = env::args(rt)?.collect(rt.alloc())?;
+    for word in &mut words {
+        if word.as_str() == "--" {
+            break;
+        }
+        if word.as_str() == "--explain=json" {
+            *word = String::from_str(rt.alloc(), "--explain-json")?;
+        }
+    }
+    Ok(words)
 }
 
 // Prints the help text, or why the command line is refused.
@@ -151,12 +164,16 @@ fn run_with<M: Meaning>(
     run_whole(rt, line, &mut session)
 }
 
-// Loads what is to be loaded, runs the script, and writes what is to be written.
+// Loads what is to be loaded, runs the script, and writes what is to be written; or only looks at the
+// modules.
 fn run_whole<M: Meaning>(rt: &HostRuntime, line: &CommandLine<'_>, session: &mut Session<M>) -> u8 {
     if line.library {
         if let Err(fault) = load_library(rt.alloc(), session) {
             return report(rt, Err(fault));
         }
+    }
+    if line.check {
+        return check_modules(rt, session, line, &observer(rt, line));
     }
     if let Err(status) = load_all(rt, session, line) {
         return status;
@@ -183,7 +200,7 @@ fn load_all<M: Meaning>(
     let mut done = false;
     for load in &line.loads {
         match load {
-            Load::Tree(_) => load_tree(rt, session, load, line.explains())?,
+            Load::Tree(_) => load_tree(rt, session, load, line)?,
             Load::Module(_) if done => {}
             Load::Module(_) => {
                 load_modules(rt, session, line)?;
@@ -242,7 +259,7 @@ fn set_modules<'l, 'a, M: Meaning>(
 {
     for load in &line.loads {
         match load {
-            Load::Module(_) => set_module(rt, session, load, line.explains(), loaded)?,
+            Load::Module(_) => set_module(rt, session, load, line, loaded)?,
             Load::Tree(_) => {}
         }
     }
@@ -254,7 +271,7 @@ fn set_module<'l, 'a, M: Meaning>(
     rt: &HostRuntime,
     session: &mut Session<M>,
     load: &'l Load<'a>,
-    explains: bool,
+    line: &CommandLine<'_>,
     loaded: &mut Vec<Loaded<'l, 'a>>,
 ) -> Result<(), u8>
     ensures { OnOk result (LoadsFile load.now session.old session.new) }
@@ -263,7 +280,7 @@ fn set_module<'l, 'a, M: Meaning>(
         Ok(text) => text,
         Err(fault) => return Err(report_file(rt, load.file(), &fault)),
     };
-    load_one(rt, session, load, &text, explains)?;
+    load_one(rt, session, load, &text, line)?;
     match loaded.push(Loaded { load, text }) {
         Ok(()) => Ok(()),
         Err(_) => Err(report_file(rt, load.file(), &FileFault::Memory)),
@@ -275,16 +292,14 @@ fn load_tree<M: Meaning>(
     rt: &HostRuntime,
     session: &mut Session<M>,
     load: &Load<'_>,
-    explains: bool,
+    line: &CommandLine<'_>,
 ) -> Result<(), u8>
     ensures { OnOk result (LoadsFile load.now session.old session.new) }
 {
     match read_file(rt, load.file()) {
         Ok(text) => {
-            load_one(rt, session, load, &text, explains)?;
-            if explains {
-                warn_of_load(rt.alloc(), rt.stderr(), session, load, &text);
-            }
+            load_one(rt, session, load, &text, line)?;
+            warn_of_load(rt, session, line, load, &text);
             Ok(())
         }
         Err(fault) => Err(report_file(rt, load.file(), &fault)),
@@ -297,13 +312,13 @@ fn load_one<M: Meaning>(
     session: &mut Session<M>,
     load: &Load<'_>,
     text: &[u8],
-    explains: bool,
+    line: &CommandLine<'_>,
 ) -> Result<(), u8>
     ensures { OnOk result (Loads load.now text.now session.old (Ok session.new)) }
 {
     match load_text(rt.alloc(), session, load, text) {
         Ok(()) => Ok(()),
-        Err(refusal) => Err(report_load(rt, session, load, text, explains, refusal)),
+        Err(refusal) => Err(report_load(rt, session, line, load, text, refusal)),
     }
 }
 
@@ -314,23 +329,39 @@ fn warn_of_modules<M: Meaning>(
     line: &CommandLine<'_>,
     modules: &[Loaded<'_, '_>],
 ) {
-    if line.explains() {
-        for module in modules {
-            warn_of_load(rt.alloc(), rt.stderr(), session, module.load, &module.text);
-        }
+    for module in modules {
+        warn_of_load(rt, session, line, module.load, &module.text);
     }
+}
+
+// Says what a text from a file may not be meant to say.
+fn warn_of_load<M: Meaning>(
+    rt: &HostRuntime,
+    session: &Session<M>,
+    line: &CommandLine<'_>,
+    load: &Load<'_>,
+    text: &[u8],
+) {
+    let mut screen = Shown {
+        stream: rt.stderr(),
+    };
+    observer(rt, line).loaded(session, loaded_text(load, text), &mut screen);
 }
 
 // Prints why the text of a file is refused. Returns the exit status.
 fn report_load<M: Meaning>(
     rt: &HostRuntime,
     session: &Session<M>,
+    line: &CommandLine<'_>,
     load: &Load<'_>,
     text: &[u8],
-    explains: bool,
     refusal: Refusal,
 ) -> u8 {
-    let told = explains && explain_load(rt.alloc(), rt.stderr(), session, load, text, &refusal);
+    let mut screen = Shown {
+        stream: rt.stderr(),
+    };
+    let loaded = loaded_text(load, text);
+    let told = observer(rt, line).load_refused(session, loaded, &refusal, &mut screen);
     let fault = FileFault::from(refusal);
     if told {
         file_status(&fault)
@@ -347,8 +378,8 @@ fn report_modules<M: Meaning>(
     modules: &[Loaded<'_, '_>],
     refusal: Refusal,
 ) -> u8 {
-    match with_fault(rt.alloc(), session, modules, &refusal) {
-        Some(it) => report_load(rt, session, it.load, &it.text, line.explains(), refusal),
+    match with_fault(rt.alloc(), session, modules) {
+        Some(it) => report_load(rt, session, line, it.load, &it.text, refusal),
         None => report_file(rt, "--module", &FileFault::from(refusal)),
     }
 }
@@ -434,6 +465,34 @@ fn run_input<M: Meaning, W: Write + Drop>(
     run_between(rt, session, line, source, sink, None)
 }
 
+// The settings of the run.
+fn settings(line: &CommandLine<'_>) -> Settings {
+    Settings {
+        steps: line.budget,
+        stop: line.stop,
+        framing: line.framing(),
+    }
+}
+
+// What says of the commands of the run, and of the files, what the command line wants.
+fn observer(rt: &HostRuntime, line: &CommandLine<'_>) -> Observer<'static> {
+    let wanted = Wanted {
+        explanations: line.explains(),
+        profiles: line.profile,
+        form: if line.explain_json {
+            Form::Json
+        } else {
+            Form::Text("stratbench: ")
+        },
+    };
+    let unloaded = if line.library {
+        None
+    } else {
+        Some(library_text())
+    };
+    Observer::new(rt.alloc(), settings(line), wanted, unloaded)
+}
+
 // What is said at a terminal where lines may go on.
 const LATE: &str = "an answer comes with the next command; with -i each line is answered at once";
 
@@ -450,29 +509,9 @@ fn run_between<M: Meaning, I: Source + Drop, O: Sink + Drop>(
     requires source { I.failed source + 1 < 2 ^ 64 }
     requires sink { O.failed sink + 1 < 2 ^ 64 }
 {
-    let settings = Settings {
-        steps: line.budget,
-        stop: line.stop,
-        framing: line.framing(),
-    };
-    let wanted = Wanted {
-        explanations: line.explains(),
-        profiles: line.profile,
-    };
-    if wanted.explanations || wanted.profiles {
-        let unloaded = if line.library {
-            None
-        } else {
-            Some(library_text())
-        };
-        let mut watch = Explaining::new(
-            rt.alloc(),
-            rt.stderr(),
-            settings,
-            wanted,
-            unloaded,
-            in_group,
-        );
+    let settings = settings(line);
+    if line.explains() || line.profile {
+        let mut watch = Explaining::new(observer(rt, line), rt.stderr(), in_group);
         let outcome = run_watched(
             rt.alloc(),
             session,

@@ -3,7 +3,7 @@ use Rattle.clap.specs.Words.{App, HasMatchesOf, Text, fault_of, first_of, found_
 use Rattle.clap.specs.declared.parser.matches.ArgMatches.{ArgMatches}
 use Rattle.clap.proofs.WalkLemmas.{first_value-rows, one_text-rows}
 use Rattle.command_line.specs.Line.{are_named_all, given, line, line_fault, values}
-use Rattle.command_line.proofs.FlagLemmas.{explain_is_given, interactive_is_given, library_is_given, lines_is_given, pretty_is_given, profile_is_given, stop_is_given}
+use Rattle.command_line.proofs.FlagLemmas.{check_is_given, explain_is_given, explain_json_is_given, interactive_is_given, library_is_given, lines_is_given, pretty_is_given, profile_is_given, stop_is_given}
 use Rattle.command_line.proofs.NamedLemmas.{err_fails, fault_comes, malformed_fault, malformed_holds, no_fault}
 use Rattle.command_line.proofs.words.arguments.Goals as goal
 
@@ -59,6 +59,20 @@ returns-in-Ok-clause-pretty g c =
     let rows = rows_are _ words c.in_ok-matches.matches c.in_ok-matches.ensures.ok.2 c.in_ok-command.ensures in
     let text = one_text-rows (found_of c.in_ok-matches.matches) (codes "pretty") ∙ ap (one_of (codes "pretty")) rows in
     pretty_is_given words c.get_flag-in-Ok-6.result (λ e. c.get_flag-in-Ok-6.ensures.value (text ∙ e)) (λ e. c.get_flag-in-Ok-6.ensures.other (text ∙ e))
+
+pub returns-in-Ok-clause-explain_json : goal.returns-in-Ok-clause-explain_json
+returns-in-Ok-clause-explain_json g c =
+    let words : List Text = map g.S.AsStr.text c.args.words.now in
+    let rows = rows_are _ words c.in_ok-matches.matches c.in_ok-matches.ensures.ok.2 c.in_ok-command.ensures in
+    let text = one_text-rows (found_of c.in_ok-matches.matches) (codes "explain-json") ∙ ap (one_of (codes "explain-json")) rows in
+    explain_json_is_given words c.get_flag-in-Ok-7.result (λ e. c.get_flag-in-Ok-7.ensures.value (text ∙ e)) (λ e. c.get_flag-in-Ok-7.ensures.other (text ∙ e))
+
+pub returns-in-Ok-clause-check : goal.returns-in-Ok-clause-check
+returns-in-Ok-clause-check g c =
+    let words : List Text = map g.S.AsStr.text c.args.words.now in
+    let rows = rows_are _ words c.in_ok-matches.matches c.in_ok-matches.ensures.ok.2 c.in_ok-command.ensures in
+    let text = one_text-rows (found_of c.in_ok-matches.matches) (codes "check") ∙ ap (one_of (codes "check")) rows in
+    check_is_given words c.get_flag-in-Ok-8.result (λ e. c.get_flag-in-Ok-8.ensures.value (text ∙ e)) (λ e. c.get_flag-in-Ok-8.ensures.other (text ∙ e))
 
 pub returns-in-Ok-clause-number : goal.returns-in-Ok-clause-number
 returns-in-Ok-clause-number g c =

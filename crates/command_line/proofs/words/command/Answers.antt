@@ -19,6 +19,8 @@ returns c =
     let trees = files_option (codes "tree") in
     let writes = files_option (codes "write") in
     let over_lines = flag_of (codes "pretty") in
+    let as_json = flag_of (codes "explain-json") in
+    let check = flag_of (codes "check") in
     let first : app_of c.in_ok-arg.field-0 ≡ fold with_rule named_app (library ∷ []) =
     c.in_ok-arg.ensures.shape c.flag.ensures.local ∙ ap₂ with_rule after_is c.flag.ensures.rule in
     let second : app_of c.in_ok-arg-2.field-0 ≡ fold with_rule named_app (library ∷ steps_option ∷ []) =
@@ -46,4 +48,8 @@ returns c =
     c.in_ok-arg-12.ensures.shape c.files_option-3.ensures.local ∙ ap₂ with_rule ninth c.files_option-3.ensures.rule in
     let eleventh : app_of c.in_ok-arg-13.field-0 ≡ fold with_rule named_app (library ∷ steps_option ∷ max_steps_option ∷ max_terms_option ∷ stop ∷ lines ∷ explain ∷ profile ∷ interactive_flag ∷ modules ∷ trees ∷ writes ∷ over_lines ∷ []) =
     c.in_ok-arg-13.ensures.shape c.flag-6.ensures.local ∙ ap₂ with_rule tenth c.flag-6.ensures.rule in
-    IfOk-weaker c.arg-14.result _ _ (λ made added. added.shape c.file_name.ensures.local ∙ ap₂ with_rule eleventh c.file_name.ensures.rule) c.arg-14.ensures
+    let twelfth : app_of c.in_ok-arg-14.field-0 ≡ fold with_rule named_app (library ∷ steps_option ∷ max_steps_option ∷ max_terms_option ∷ stop ∷ lines ∷ explain ∷ profile ∷ interactive_flag ∷ modules ∷ trees ∷ writes ∷ over_lines ∷ as_json ∷ []) =
+    c.in_ok-arg-14.ensures.shape c.flag-7.ensures.local ∙ ap₂ with_rule eleventh c.flag-7.ensures.rule in
+    let thirteenth : app_of c.in_ok-arg-15.field-0 ≡ fold with_rule named_app (library ∷ steps_option ∷ max_steps_option ∷ max_terms_option ∷ stop ∷ lines ∷ explain ∷ profile ∷ interactive_flag ∷ modules ∷ trees ∷ writes ∷ over_lines ∷ as_json ∷ check ∷ []) =
+    c.in_ok-arg-15.ensures.shape c.flag-8.ensures.local ∙ ap₂ with_rule twelfth c.flag-8.ensures.rule in
+    IfOk-weaker c.arg-16.result _ _ (λ made added. added.shape c.file_name.ensures.local ∙ ap₂ with_rule thirteenth c.file_name.ensures.rule) c.arg-16.ensures
