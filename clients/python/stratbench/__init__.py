@@ -31,6 +31,7 @@ from collections.abc import Iterator, Sequence
 from types import TracebackType
 from typing import Final, NamedTuple, Union
 
+from .diagnostics import Diagnostic, Told, others, parsed, told
 from .embedded import Embedded
 from .parts import Step, TooLong, Unbalanced, in_parts
 from .places import Command, Text
@@ -61,7 +62,8 @@ class Refused(Exception):
 
     `number` and `word` are those of the refusal; for the number 11, whose word is `check`, there is the `fault`, as
     `('unknown', 'f', 0, 0)`, of which the first is its kind. Names that aren't words have their quotes. `explanation` says
-    what was wrong; a line and a column in it are those of the text that the caller gave, as `place` is, the first of these.
+    what was wrong; a line and a column in it are those of the text that the caller gave, as `place` is, the first of these. `diagnostic`
+    is the same as data, with the places that the program has.
 
         >>> with Stratbench() as bench:
         ...     bench.module("m", "strategies\\n  f = id\\n  g = f)\\n")
@@ -71,9 +73,11 @@ class Refused(Exception):
                    ^
     """
 
-    def __init__(self, answer: str, explanation: str = "", place: tuple[int, int] | None = None) -> None:
-        super().__init__(answer, explanation, place)
-        self.explanation, self.place = explanation, place
+    def __init__(
+        self, answer: str, explanation: str = "", place: tuple[int, int] | None = None, diagnostic: Diagnostic | None = None
+    ) -> None:
+        super().__init__(answer, explanation, place, diagnostic)
+        self.explanation, self.place, self.diagnostic = explanation, place, diagnostic
         _, number, self.word = answer.split(" ", 2)
         self.number = int(number)
         self.fault: tuple[str, str, int, int] | None = None
@@ -164,7 +168,7 @@ class Stratbench:
         max_terms: int | None = None,
     ) -> None:
         self.seconds = seconds
-        self.warnings: list[str] = []
+        self.warnings: list[Told] = []
         self._line = 1
         self._grouped = False
         self._process: Process | Embedded
@@ -177,7 +181,7 @@ class Stratbench:
             self._process = Embedded(path, library, _STEPS if steps is None else steps)
             return
         words = [program or os.environ.get("STRATBENCH") or "stratbench", *options]
-        words += ["--explain"] * ("--explain" not in options) + ["--library"] * library
+        words += ["--explain=json"] + ["--library"] * library
         numbers = {"steps": steps, "max-steps": max_steps, "max-terms": max_terms}
         words += [f"--{option}={number}" for option, number in numbers.items() if number is not None]
         self._process = Process(words)
@@ -204,7 +208,8 @@ class Stratbench:
                 # which completes what was begun
                 self._process.write("history\n")
             self._process.end()
-            self.warnings = [re.sub(r"^line \d+: warning: ", "", it) for it in self._process.said()]
+            said = self._process.said()
+            self.warnings = [*(Told(it.told()) for it in parsed(said)), *map(Told, filter(None, [_plain(others(said))]))]
         return self._process.end()
 
     def run(self, command: str) -> str:
@@ -472,20 +477,18 @@ class Stratbench:
         try:
             lines = self._lines(word, command.sent)
         except EOFError:
-            raise Ended(self._process.end(), "\n".join(self._process.said())) from None
+            raise Ended(self._process.end(), _plain(self._process.said())) from None
         except BaseException as error:
             # the answer would be taken for that of the next command
             self._process.end(kill=True)
             if isinstance(error, TimeoutError):
                 raise TimeoutError(f"no answer after {self.seconds} seconds") from None
             raise
-        said = self._process.said()
+        said = parsed(self._process.said())
         if lines[0].startswith("refused "):
-            begins = f"line {command.line}: {lines[0]}"
-            found = next((it for it in said if it.startswith(begins)), begins)
-            raise Refused(lines[0], *command.explained(found[len(begins) :].removeprefix(": ")))
-        begins = rf"line {command.line}: (?:warning: )?"
-        self.warnings = [command.explained(re.sub(f"^{begins}", "", it))[0] for it in said]
+            found = next((it for it in said if it.line == command.line and it.severity == "refusal"), None)
+            raise Refused(lines[0], *(command.explained(found) if found else ("", None)), found)
+        self.warnings = [_warning(command, it) for it in said]
         self._grouped = word == "begin" or self._grouped and word not in ("commit", "abandon")
         return lines
 
@@ -504,6 +507,20 @@ class Stratbench:
                 lines.append(self._process.line(until))
             lines.pop()
         return lines
+
+
+# All that the program said, without its name.
+def _plain(said: str) -> str:
+    plain = re.sub(r"^stratbench: ", "", others(said), flags=re.MULTILINE)
+    return "\n".join([*filter(None, [plain]), *map(told, parsed(said))])
+
+
+# A warning on a command.
+def _warning(command: Command, it: Diagnostic) -> Told:
+    text, place = command.explained(it)
+    warning = Told(text)
+    warning.place = place
+    return warning
 
 
 # The term of a text.

@@ -4,7 +4,6 @@ from __future__ import annotations
 
 import ctypes
 import os
-import re
 import threading
 import weakref
 from collections.abc import Callable
@@ -13,6 +12,8 @@ from typing import Final
 # What the calls return, as clients/c/stratbench.h says.
 _REFUSED: Final = 1
 _NO_BUDGET: Final = 4
+# Explanations are wanted as JSON.
+_AS_JSON: Final = 2
 
 
 class Embedded:
@@ -36,7 +37,7 @@ class Embedded:
         """The exit status, once the session has ended."""
         self._calls.stratbench_new(self._handle)
         self._drop = weakref.finalize(self, _drop, os.getpid(), self._calls.stratbench_drop, self._handle, self._memory)
-        if self._calls.stratbench_explain(self._handle, 1) or library and self._calls.stratbench_library(self._handle):
+        if self._calls.stratbench_explain(self._handle, _AS_JSON) or library and self._calls.stratbench_library(self._handle):
             self._drop()
             raise MemoryError("no memory for a session")
 
@@ -64,13 +65,13 @@ class Embedded:
         del self._got[: end + 1]
         return line
 
-    def said(self) -> list[str]:
-        """Returns what was said of the last text, piece by piece."""
+    def said(self) -> str:
+        """Returns what was said of the last text."""
         if self.status is not None:
-            return []
+            return ""
         with self._lock:
             said = self._copied(self._calls.stratbench_hints)
-        return [it.rstrip("\n") for it in re.split(r"^(?! )", said.decode(errors="replace"), flags=re.MULTILINE) if it]
+        return said.decode(errors="replace")
 
     def end(self, kill: bool = False) -> int:
         """Ends the session, and returns the greatest status of its texts: 1 if a command was refused, as of the program."""

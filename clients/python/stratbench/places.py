@@ -15,12 +15,13 @@ import re
 from bisect import bisect_left
 from collections.abc import Iterator
 
+from .diagnostics import Diagnostic, Label
+
 _STRING = r'"(?:\\.|[^"\\])*"'
 # A line feed before a line that begins in the first column.
 _COLUMN = re.compile(r"\n(?=[^ \t\n])")
 _IN_TERMS = re.compile(f"{_STRING}|{_COLUMN.pattern}", re.DOTALL)
 _IN_STRATEGIES = re.compile(rf"{_STRING}|/\*.*?\*/|//[^\n]*|{_COLUMN.pattern}", re.DOTALL)
-_PLACE = re.compile(r"line (\d+), column (\d+)\b(?! of its text)")
 
 # The most characters of a line that are shown, and those of them before the place.
 _SHOWN = 100
@@ -79,36 +80,32 @@ class Command:
         own = min(self.text.own_at(at), len(self.text.own))
         return self.text.own.count("\n", 0, own) + 1, own - self.text.own.rfind("\n", 0, own)
 
-    def explained(self, said: str) -> tuple[str, tuple[int, int] | None]:
+    def explained(self, said: Diagnostic, subject: bool = True) -> tuple[str, tuple[int, int] | None]:
         """Returns what was said of the command, with the places in the caller's text, and the first of these."""
-        found: list[tuple[int, int]] = []
 
-        def own(place: re.Match[str]) -> str:
-            there = self.own_place(int(place[1]), int(place[2]))
-            if there is None:
-                return place[0]
-            found.append(there)
-            return f"line {there[0]}, column {there[1]}"
+        def own(label: Label) -> tuple[int, int] | None:
+            is_here = label.module is None and label.line is not None and label.column is not None
+            return self.own_place(label.line or 0, label.column or 0) if is_here else None
 
-        message, *rest = said.split("\n")
-        message = _PLACE.sub(own, message)
-        if len(rest) > 1 and rest[1].strip() == "^":
-            # the line of the first place, and the sign below it
-            line, rest = rest[:2], rest[2:]
-            if found:
-                line = shown(self.text.own.split("\n")[found[0][0] - 1], found[0][1])
-        else:
-            line = []
-        rest = [_PLACE.sub(own, it) for it in rest]
-        return "\n".join([message, *line, *rest]), found[0] if found else None
+        def telling(label: Label) -> str | None:
+            there = own(label)
+            return there and f"line {there[0]}, column {there[1]}"
+
+        found = [there for it in (said.message, *said.notes) for there in map(own, it.labels) if there]
+        first = said.first()
+        here = own(first) if first else None
+        excerpt = None
+        if here and said.excerpt:
+            excerpt = tuple(shown(self.text.own.split("\n")[here[0] - 1], here[1]))
+        return said.told(telling, excerpt, subject), found[0] if found else None
 
 
 def shown(line: str, column: int) -> list[str]:
     """Returns the line with a sign below its column, from 1.
 
     >>> print(*shown("f(a,)", 5), sep="\\n")
-        f(a,)
-            ^
+    f(a,)
+        ^
     """
     line = "".join(it if it.isprintable() or it == "\t" else "?" for it in line.rstrip("\r"))
     before, after = line[: column - 1], line[column - 1 :]
@@ -117,4 +114,4 @@ def shown(line: str, column: int) -> list[str]:
             before = ".." + before[-_BEFORE:]
         if len(before) + len(after) > _SHOWN:
             after = after[: _SHOWN - len(before)] + ".."
-    return [f"    {before}{after}", f"    {''.join(it if it == chr(9) else ' ' for it in before)}^"]
+    return [before + after, "".join(it if it == "\t" else " " for it in before) + "^"]

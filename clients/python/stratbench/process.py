@@ -32,7 +32,7 @@ class Process:
             raise
         self._got = bytearray()
         self._heard = 0
-        self._last: list[str] = []
+        self._last = ""
         weakref.finalize(self, _finish, os.getpid(), self._ran, self._said)
 
     @property
@@ -68,16 +68,16 @@ class Process:
         del self._got[: end + 1]
         return line
 
-    def said(self) -> list[str]:
-        """Returns what the program has said since the last time, each piece without its name; once it has ended, what it said last."""
+    def said(self) -> str:
+        """Returns what the program has said since the last time; once it has ended, what it said last."""
         if self._said.closed:
             return self._last
         length = os.fstat(self._said.fileno()).st_size - self._heard
         if not length:
-            return []
+            return ""
         said = os.pread(self._said.fileno(), length, self._heard)
         self._heard += len(said)
-        return [it.rstrip("\n") for it in re.split(r"^stratbench: ", said.decode(errors="replace"), flags=re.MULTILINE) if it]
+        return said.decode(errors="replace")
 
     def end(self, kill: bool = False) -> int:
         """Closes the pipes, waits for the end, and returns the exit status."""

@@ -31,7 +31,7 @@ REFUSED = [
     ("apply", ("old", "é" * 3), None, (1, 1)),
     ("preview", ("old", "id;" + " " * 200 + "g;id"), "at line 1, column 204\n    .." + " " * 60 + "g;id\n    " + " " * 62 + "^", (1, 204)),
     ("show", ("none",), "there is no tree `none`\n    there is `old`", None),
-    ("unload", ("base",), "in `twice` of the module `uses`, line 2, column 11 of its text\n      twice = half; half\n              ^", None),
+    ("unload", ("base",), "in `twice` of the module `uses`, line 2, column 11 of its text\n      twice = half; half\n              ^\n    also unknown half 0 0, in `twice` of the module `uses`, line 2, column 17 of its text", None),
     ("module", ("a", "strategies\nhalf = id"), "in `half` of the module `base`, line 1, column 12 of its text\n    strategies half = id\n               ^\n    the module `a` defines it, too, at line 2, column 1", (2, 1)),
     ("run", ("apply old do\n g"), "at line 2, column 2\n     g\n     ^", (2, 2)),
 ]  # fmt: skip

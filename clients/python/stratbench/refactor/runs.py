@@ -11,6 +11,7 @@ from functools import cached_property
 from itertools import repeat
 from typing import Final, NamedTuple, Protocol
 
+from ..diagnostics import Diagnostic, others, parsed, told
 from ..places import Command, Text
 from ..terms import Shown, Term, deep, exchange, height, items, read, shown
 from . import task as bounds
@@ -25,8 +26,6 @@ LEAST_STEPS: Final = 1_000_000
 _OF_TEXTS: Final = (2, 3, 8, 10, 11)
 # A tree to which a strategy may be applied where only that is in question.
 _EMPTY: Final = shown(items())
-# A definition in a line of a profile, with its steps.
-_PART: Final = re.compile(r"(?:`([^`]+)`|(the command)) \d+ % \((\d+)\)")
 
 
 class Tree(Protocol):
@@ -167,9 +166,9 @@ class Bench:
             return []
         texts = [shown(it) if isinstance(it, Term) else it for it in trees]
         commands = self.commands(texts, strategies)
-        ran = self.run(_script(commands), texts, ["--profile"] * self.task.profile)
+        ran = self.run(_script(commands), texts, ["--profile", "--explain=json"] if self.task.profile else [])
         if ran.status not in (0, 1) or len(ran.lines) <= len(texts):
-            raise _Ended(re.sub(r"^stratbench: (/\S+: )?", "", ran.said.strip()) or f"{self.program} ended with status {ran.status}")
+            raise _Ended(re.sub(r"^stratbench: (/\S+: )?", "", self.told(ran.said)) or f"{self.program} ended with status {ran.status}")
         found: list[dict[tuple[int, ...], Term] | Refused] = []
         at = 0
         for tree in texts:
@@ -182,8 +181,8 @@ class Bench:
             found.append(dict(_replacement(line) for line in ran.lines[at : at + count]))
             at += count
         if self.task.profile:
-            said = _explanations(ran.said)
-            self.steps = [_profile(said.get(it.line, "")) for it in commands]
+            said = {it.line: it.steps for it in parsed(ran.said) if it.severity == "profile"}
+            self.steps = [tuple((name or "the command", steps) for name, steps in said.get(it.line, ())) for it in commands]
         return found
 
     def explained(self, refused: Sequence[Refused]) -> tuple[list[str], tuple[str, ...]]:
@@ -192,9 +191,17 @@ class Bench:
             return [], ()
         trees = [it.tree for it in refused]
         commands = self.commands(trees)
-        ran = self.run(_script(commands), trees, ["--explain"])
-        said = _explanations(ran.said)
-        return [it.explained(said.get(it.line, str(one)))[0] for it, one in zip(commands, refused)], _warnings(ran.said)
+        ran = self.run(_script(commands), trees, ["--explain=json"])
+        said = _refusals(ran.said)
+        return [_why(it, said.get(it.line), str(one)) for it, one in zip(commands, refused)], self.warnings(ran.said)
+
+    def told(self, said: str) -> str:
+        """Returns what was said, with what is data as text."""
+        return "\n".join([*filter(None, [others(said).strip()]), *map(_told, parsed(said))])
+
+    def warnings(self, said: str) -> tuple[str, ...]:
+        """Returns the warnings in what was said."""
+        return tuple(_told(it) for it in parsed(said) if it.severity == "warning")
 
     def commands(self, trees: Sequence[Shown], strategies: Sequence[str] = ()) -> list[Command]:
         """The previews of the task's strategy, or of these, on these trees."""
@@ -223,6 +230,11 @@ class Ran(NamedTuple):
     said: str
 
 
+# A diagnostic as the program says it in text.
+def _told(it: Diagnostic) -> str:
+    return f"stratbench: {told(it)}"
+
+
 # A line of a preview: the path, and the term that would be there.
 def _replacement(line: bytes) -> tuple[tuple[int, ...], Term]:
     at, _, rest = line.partition(b" ")
@@ -232,28 +244,18 @@ def _replacement(line: bytes) -> tuple[tuple[int, ...], Term]:
     return path, read(rest[end + len(b" => ") :])
 
 
-# What was said of each line of the script.
-def _explanations(said: str) -> dict[int, str]:
-    found: dict[int, str] = {}
-    number = 0
-    for line in said.splitlines():
-        begins = re.match(r"stratbench: line (\d+): (.*)", line)
-        if begins:
-            number = int(begins[1])
-            found[number] = begins[2]
-        elif number:
-            found[number] += "\n" + line
-    return found
+# What was said of refused commands, by the lines of the script.
+def _refusals(said: str) -> dict[int, Diagnostic]:
+    return {it.line: it for it in parsed(said) if it.line is not None and it.severity == "refusal"}
 
 
-# Where the steps went, by definition, of what `--profile` says of a command.
-def _profile(said: str) -> tuple[tuple[str, int], ...]:
-    return tuple((name or command, int(steps)) for name, command, steps in _PART.findall(said))
-
-
-# The warnings of modules in what was said.
-def _warnings(said: str) -> tuple[str, ...]:
-    return tuple(re.findall(r"^stratbench: .*: warning: .*$", said, re.MULTILINE))
+# A refusal, and why.
+def _why(command: Command, said: Diagnostic | None, answer: str) -> str:
+    if said is None:
+        return answer
+    # the command is ours: its word and its name say nothing to whoever gave the strategy
+    why = command.explained(said, subject=False)[0]
+    return f"{answer}: {why}" if said.message.text else answer + why
 
 
 def prepared(task: Task) -> Task | None:
@@ -275,12 +277,12 @@ def check_texts(task: Task) -> tuple[str, tuple[str, ...]]:
     with tempfile.TemporaryDirectory(prefix="stratbench-") as room:
         bench = Bench(room, task)
         [command] = bench.commands([_EMPTY])
-        ran = bench.run(_script([command]), [_EMPTY], ["--explain"])
+        ran = bench.run(_script([command]), [_EMPTY], ["--explain=json"])
+        warnings = bench.warnings(ran.said)
     if len(ran.lines) < 2:
-        return ran.said.strip() or f"{bench.program} ended with status {ran.status}", ()
+        return bench.told(ran.said) or f"{bench.program} ended with status {ran.status}", ()
     answer = ran.lines[0].decode(errors="replace")
     if not answer.startswith("refused ") or int(answer.split()[1]) not in _OF_TEXTS:
-        return "", _warnings(ran.said)
-    why = command.explained(_explanations(ran.said).get(command.line, answer))[0].removeprefix(answer)
-    # the command is ours, and what was given is the strategy
-    return f"--do: {answer}{why.replace(': preview t0: ', ': ', 1)}", _warnings(ran.said)
+        return "", warnings
+    why = _why(command, _refusals(ran.said).get(command.line), answer)
+    return f"--do: {why}", warnings

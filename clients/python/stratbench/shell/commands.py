@@ -145,12 +145,11 @@ class Shell:
 
     # What the program says of what it accepted, with the place that it speaks of.
     def _say_warnings(self) -> None:
-        for said, text in self.session.warnings:
+        for said, text, place in self.session.warnings:
             self.say(f"warning: {said}")
-            place = re.search(r"\bline (\d+), column (\d+)\b(?! of its text)", said)
             rows = text.split("\n")
-            if place and "\n" not in said and int(place[1]) <= len(rows):
-                self.say("\n".join(shown(rows[int(place[1]) - 1], int(place[2]))))
+            if place and "\n" not in said and place[0] <= len(rows):
+                self.say("\n".join(f"    {it}" for it in shown(rows[place[0] - 1], place[1])))
 
     def _show(self, command: str, words: list[str]) -> None:
         text = self.session.run(command)

@@ -69,8 +69,8 @@ def _of_file(loaded: Sequence[Loaded]) -> Iterator[None]:
     try:
         yield
     except Refused as refused:
-        named = re.search(r" of the module `([^`]+)`", str(refused))
-        found = loaded if len(loaded) == 1 else [it for it in loaded if named and (it.kind, it.name) == ("module", named[1])]
+        named = refused.diagnostic and refused.diagnostic.module
+        found = loaded if len(loaded) == 1 else [it for it in loaded if (it.kind, it.name) == ("module", named)]
         if not found or not found[0].file:
             raise
         raise RefusedFile(f"{found[0].file}: {refused}") from None
@@ -85,7 +85,7 @@ class Session:
         self._made: list[Callable[[Stratbench], object]] = []
         self.bench = Stratbench(**start)
         # what the program said of the last command, each with the text that it speaks of
-        self.warnings: list[tuple[str, str]] = []
+        self.warnings: list[tuple[str, str, tuple[int, int] | None]] = []
         # what the steps were that can be undone and redone, the next last; the first ones are those of the start
         self.done = ["the start of the session"] * self.bench.history()[0]
         self.undone: list[str] = []
@@ -100,17 +100,17 @@ class Session:
             self._check_undo(words[1:])
         note = (lambda: self._note(words, command)) if words[0] in _CHANGES else None
         answer = self._call(lambda bench: bench.run(command), note)
-        self.warnings = [(it, command) for it in self.bench.warnings]
+        self.warnings = [(it, command, it.place) for it in self.bench.warnings]
         return answer
 
     def load(self, loaded: Sequence[Loaded], what: str) -> None:
         """Loads trees and modules, as one step."""
-        said: list[tuple[str, str]] = []
+        said: list[tuple[str, str, tuple[int, int] | None]] = []
 
         def give(bench: Stratbench, it: Loaded) -> None:
             with _of_file([it]):
                 (bench.tree if it.kind == "tree" else bench.module)(it.name, it.text)
-            said.extend((f"{it.file}: {warning}" if it.file else warning, it.text) for warning in bench.warnings)
+            said.extend((f"{it.file}: {warning}" if it.file else warning, it.text, warning.place) for warning in bench.warnings)
 
         def give_all(bench: Stratbench) -> None:
             # one is a step of its own, with names looked at as it is given
