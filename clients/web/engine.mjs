@@ -95,16 +95,20 @@ async function instantiated(source) {
 
 const bytesOf = text => (typeof text === 'string' ? encoder.encode(text) : text);
 
+/** The forms in which calls are explained. */
+export const AS_TEXT = 1;
+export const AS_JSON = 2;
+
 /**
- * A session. Its calls return `{status, answers, said}`: the answers of the call, and what `--explain` would say of it. Places are
- * lines and columns of the script, or of the text that is loaded.
+ * A session. Its calls return `{status, answers, said}`: the answers of the call, and what `--explain=json`, or `--explain`, would say
+ * of it. Places are lines and columns of the script, or of the text that is loaded.
  */
 export class Session {
-  constructor(engine) {
+  constructor(engine, form = AS_JSON) {
     this.engine = engine;
     this.handle = engine.room(Number(engine.call('stratbench_size')));
     engine.call('stratbench_new', this.handle);
-    engine.call('stratbench_explain', this.handle, 1);
+    engine.call('stratbench_explain', this.handle, form);
   }
 
   /** Answers the commands of a script, which may go on over lines. `steps` is the budget of those that name none. */

@@ -1,7 +1,7 @@
-// What the engine says of a refusal, or of an accepted module, taken apart.
+// What the engine says of a refusal, or of an accepted module: a line of JSON each.
 
-const ENTRY = /^(.*?): (refused \d+ [a-z]+(?: .*? \d+ \d+)?|warning): ([^]*)$/;
-const PLACE = /(?:of the module `([^`]*)`, )?line (\d+), column (\d+)( of its text)?/;
+// The number of a refusal by a fault of modules or strategies.
+const CHECK = 11;
 
 /** What the refusals mean, for where nothing more is said. */
 const MEANINGS = {
@@ -51,51 +51,55 @@ export function refusalIn(answers) {
   return found && { number: Number(found[1]), word: found[2], rest: found[3] ?? '' };
 }
 
+// A sentence in which `move` changes the places of the command's own text. It takes and returns a line and a column.
+function told({ message, labels }, move) {
+  if (!move) return message;
+  let bytes = new TextEncoder().encode(message);
+  for (const { module, line, column, said: [from, to] } of [...labels].sort((one, other) => other.said[0] - one.said[0])) {
+    if (module !== undefined || line === undefined) continue;
+    const place = move({ line, column });
+    const words = new TextEncoder().encode(`line ${place.line}, column ${place.column}`);
+    bytes = new Uint8Array([...bytes.subarray(0, from), ...words, ...bytes.subarray(to)]);
+  }
+  return new TextDecoder().decode(bytes);
+}
+
 /**
- * The entries of what was said: `{isWarning, reason, hints, place, module, isOfText}`. `place` is the line and the column that it
- * speaks of. `module` is the module or tree that it is in, if that is named, and `isOfText` whether it is one of the text that the
- * engine keeps, in which no line begins in the first column.
+ * The entries of what was said: `{isWarning, reason, hints, place, module, isOfText, tell}`. `place` is the line and the column that it
+ * speaks of. `module` is the module or tree that it is in, if that is named, and `isOfText` whether the place is one of the text that
+ * the engine keeps, in which no line begins in the first column. `tell` returns the reason and the hints with places moved.
  */
 export function entriesOf(said) {
-  const entries = [];
-  for (const line of said.split('\n')) {
-    if (!line) continue;
-    if (/^\s/.test(line) && entries.length) entries.at(-1).lines.push(line.trim());
-    else entries.push({ head: line, lines: [] });
-  }
-  return entries.map(({ head, lines }) => {
-    const [, source = '', kind = '', text = head] = ENTRY.exec(head) ?? [];
-    const place = PLACE.exec(text);
-    const caret = lines.findIndex(it => it === '^');
+  return said.split('\n').filter(line => line.startsWith('{')).map(line => {
+    const it = JSON.parse(line);
+    const place = it.labels.find(label => label.line !== undefined);
+    const tell = move => ({ reason: told(it, move), hints: it.notes.map(note => told(note, move)) });
     return {
-      isWarning: kind === 'warning',
-      reason: text.replace(/^(?:module|tree|apply|preview|put|annotate|commit|unload)(?: [^\s:]+)?: /, ''),
-      hints: caret < 0 ? lines : lines.filter((_, i) => i > caret || i < caret - 1),
-      place: place && { line: Number(place[2]), column: Number(place[3]) },
-      module: place?.[1] ?? (/^line \d+$/.test(source) ? undefined : source),
-      isOfText: Boolean(place?.[4]),
+      isWarning: it.severity === 'warning',
+      ...tell(null),
+      tell,
+      place: place && { line: place.line, column: place.column },
+      // a strategy that fails in a module isn't a fault of that
+      module: place?.module ?? (it.number === CHECK ? it.module : undefined) ?? it.file,
+      isOfText: place?.module !== undefined,
     };
   });
 }
 
-/** What is to be shown of a refused call: `{number, word, reason, hints, place, module}`. */
+/** What is to be shown of a refused call: `{number, word, reason, hints, place, module, tell}`. */
 export function refused({ answers, said }) {
   const refusal = refusalIn(answers);
   if (!refusal) return null;
-  const entry = entriesOf(said).findLast(it => !it.isWarning) ?? { reason: MEANINGS[refusal.number] ?? refusal.word, hints: [] };
+  const entry = entriesOf(said).findLast(it => !it.isWarning);
   const named = /^(.*) (\d+) (\d+)$/.exec(refusal.rest)?.slice(1) ?? [refusal.rest, '0', '0'];
   const fault = FAULTS[refusal.word]?.(named);
-  const hints = [...entry.hints, ...REPAIRS[refusal.word]?.(named) ?? []];
-  return { ...refusal, ...entry, hints, reason: fault ? `${fault}, ${entry.reason}` : entry.reason };
+  const repairs = REPAIRS[refusal.word]?.(named) ?? [];
+  const tell = move => {
+    const { reason, hints } = entry?.tell(move) ?? { reason: MEANINGS[refusal.number] ?? refusal.word, hints: [] };
+    return { reason: fault ? `${fault}, ${reason}` : reason, hints: [...hints, ...repairs] };
+  };
+  return { ...refusal, ...entry, ...tell(null), tell };
 }
 
 /** The warnings of an accepted call. */
 export const warnings = ({ said }) => entriesOf(said).filter(it => it.isWarning);
-
-/** A text with its places moved by `move`, which takes and returns a line and a column. */
-export function withPlaces(text, move) {
-  return text.replace(/line (\d+), column (\d+)(?! of its text)/g, (_, line, column) => {
-    const to = move({ line: Number(line), column: Number(column) });
-    return `line ${to.line}, column ${to.column}`;
-  });
-}

@@ -4,7 +4,7 @@ import { MOST, client, names, page, textOf } from './state.mjs';
 import { applying, placeInStrategy } from './commands.mjs';
 import { button, byId, made, refusalParts, say, warningParts, withCode } from './parts.mjs';
 import { choose, editors, saidOf, showPane, showTree } from './view.mjs';
-import { refused, withPlaces } from './explain.mjs';
+import { refused } from './explain.mjs';
 
 const goButton = (kind, name, place) => button(`Go to line ${place.line}, column ${place.column}`, () => {
   if (kind !== 'strategy' && page[kind] !== name) choose(kind, name);
@@ -58,7 +58,7 @@ export function sayRefusal(word, step, refusal, again) {
     return;
   }
   const move = place => placeInStrategy(word, step, place);
-  const moved = { ...refusal, reason: withPlaces(refusal.reason, move), hints: refusal.hints.map(it => withPlaces(it, move)) };
+  const moved = { ...refusal, ...refusal.tell(move) };
   const buttons = [];
   if (refusal.place) {
     const place = move(refusal.place);

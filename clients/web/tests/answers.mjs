@@ -3,13 +3,15 @@
 
 import { readFileSync } from 'node:fs';
 import { createInterface } from 'node:readline';
-import { Engine, Session, Trap } from '../engine.mjs';
+import { AS_TEXT, Engine, Session, Trap } from '../engine.mjs';
 
 const bytes = readFileSync(process.argv[2]);
 let engine = await Engine.load(bytes, 2 ** 31);
 
 /** A session whose answers are bytes in base64. */
 class Coded extends Session {
+  constructor(it) { super(it, AS_TEXT); }
+
   copied(call) {
     return Buffer.from(this.engine.copied((at, room) => this.engine.call(call, this.handle, at, room))).toString('base64');
   }
