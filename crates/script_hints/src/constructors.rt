@@ -9,11 +9,8 @@ use strategy_syntax::Constructor;
 use strategy_tokens::{Sign, Token, TokenPlace, is_mark};
 use term_core::{Name, NoMemory};
 
-// The most constructors that are warned of, and the fewest bytes of a name that another is taken
-// for.
+// The most constructors that are warned of.
 const WARNED: u64 = 4;
-
-const LONG: usize = 4;
 
 impl Explainer<'_, '_> {
     /// Warns of the constructors of a term that no module declares, where one declares it with
@@ -36,10 +33,9 @@ impl Explainer<'_, '_> {
             if let Token::Ident(name) = token
                 && warned < WARNED
             {
-                let (before, after) = tokens.split_at(number.min(tokens.len()));
-                let terms = terms_of(after);
+                let terms = terms_of(tokens.get(number..).unwrap_or(&[]));
                 if let Some(near) = near_constructor(self.alloc, self.modules, name, terms)?
-                    && !has_use(before, name, terms)
+                    && !has_use(tokens, number, name, terms)
                     && self.is_apart(number)
                 {
                     self.warn_of_constructor(number, terms, near, near.name().equals(name));
@@ -88,9 +84,9 @@ fn joins(byte: Option<&u8>) -> bool {
     byte.is_some_and(|byte| b"-+*$.'".contains(byte))
 }
 
-// Whether a constructor of this name with so many terms is among these tokens.
-fn has_use(tokens: &[Token], name: &Name, terms: u64) -> bool {
-    for (number, token) in tokens.iter().enumerate() {
+// Whether a constructor of this name with so many terms begins before the token of this number.
+fn has_use(tokens: &[Token], last: usize, name: &Name, terms: u64) -> bool {
+    for (number, token) in tokens.iter().enumerate().take(last) {
         if let Token::Ident(found) = token
             && found.equals(name)
             && terms_of(tokens.get(number..).unwrap_or(&[])) == terms
@@ -128,9 +124,10 @@ fn near_constructor<'m>(
     Ok(near)
 }
 
+// Whether the names differ in one byte. No name of a single byte is taken for another one.
 fn is_near(alloc: Global, name: &[u8], other: &[u8]) -> Result<bool, NoMemory> {
     let (least, most) = (name.len().min(other.len()), name.len().max(other.len()));
-    if most < LONG || least.saturating_add(1) < most {
+    if least < 2 || least.saturating_add(1) < most {
         return Ok(false);
     }
     Ok(distance(alloc, name, other)? == 1)
