@@ -52,7 +52,7 @@ impl Explainer<'_, '_> {
         match self.strategy()? {
             Some(strategy) => {
                 let uses = variables_of(self.alloc, &strategy)?;
-                self.say_constant(&uses);
+                self.say_constant(&uses.variables);
                 Ok(())
             }
             None => Ok(()),

@@ -1,7 +1,7 @@
 //! What is odd in an accepted command.
 
 use crate::explainer::{Explainer, origin_of};
-use crate::variables::{VariableUse, variables_of};
+use crate::variables::{Uses, VariableUse, has_name, variables_of};
 use diagnostic::{Code, Diagnostic, Fill, Origin, Report, Severity, say};
 use hint_text::{Ground, ModuleTexts, Past, ScriptCommand, arity_of, declaring};
 use prim_core::Meaning;
@@ -138,10 +138,6 @@ fn catches_all(definition: &Definition) -> bool {
     }
 }
 
-fn has_name(names: &[Name], name: &Name) -> bool {
-    names.iter().any(|it| it.equals(name))
-}
-
 impl Explainer<'_, '_> {
     fn warn_of_modules<R: Report>(&mut self, report: &mut R) -> Result<(), NoMemory> {
         if self.parts.text.is_empty() && self.command.framing == Framing::Lines {
@@ -186,11 +182,13 @@ impl Explainer<'_, '_> {
         report: &mut R,
     ) -> Result<(), NoMemory> {
         let uses = variables_of(self.alloc, definition.body())?;
-        for (number, found) in uses.iter().enumerate() {
-            if !has_use(uses.get(..number).unwrap_or(&[]), found.name) {
-                self.warn_of_variable(definition, *found, &uses, report);
+        let variables = &uses.variables;
+        for (number, found) in variables.iter().enumerate() {
+            if !has_use(variables.get(..number).unwrap_or(&[]), found.name) {
+                self.warn_of_variable(definition, *found, variables, report);
             }
         }
+        self.warn_of_repeated(definition, &uses, report);
         drop(uses);
         Ok(())
     }
@@ -215,6 +213,31 @@ impl Explainer<'_, '_> {
             self.hint
                 .words(" is only on the right side: nothing binds it");
             report.report(&self.hint);
+        }
+    }
+
+    // Warns of each strategy that is run at many places, and binds a variable at the first of them.
+    fn warn_of_repeated<R: Report>(
+        &mut self,
+        definition: &Definition,
+        uses: &Uses<'_>,
+        report: &mut R,
+    ) {
+        let mut told = Place::nowhere();
+        for found in &uses.variables {
+            if let Some(place) = uses.bound_once(*found)
+                && place != told
+                && !has_name(definition.term_parameters(), found.name)
+            {
+                told = place;
+                let within = Some(definition.name());
+                self.begin_warning("once", within, self.bytes_of(found.place));
+                self.hint.words(" is bound at the first place that matches, for all others");
+                self.say_advice(
+                    "a rule, or a closure `\\ l -> r \\`, binds its variables at each place",
+                );
+                report.report(&self.hint);
+            }
         }
     }
 
