@@ -4,7 +4,7 @@
 use crate::finding::{Node, Part, is_around};
 use crate::observing::Called;
 use diagnostic::{DEEPEST, Spot};
-use hint_text::token_of;
+use hint_text::{bytes_at, token_of};
 use session_history::CheckedTexts;
 use std::alloc::Global;
 use strategy_parse::{definition_stands_at, stands_at, token_count};
@@ -74,6 +74,14 @@ impl<'a> Body<'a> {
             start,
             start.saturating_add(name.len()),
         )
+    }
+
+    /// Where a part of it stands in its module's text; where it begins, if that part has no tokens.
+    pub fn spot_of(&self, part: Place) -> Spot<'a> {
+        match bytes_at(self.text, part) {
+            Some(bytes) => Spot::in_module(self.module, self.text, bytes.start, bytes.end),
+            None => self.spot(),
+        }
     }
 
     /// Whether both are the same.

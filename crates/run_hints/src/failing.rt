@@ -7,7 +7,7 @@ use crate::matching::{matched, may_match};
 use crate::observing::{Bound, Stand};
 use crate::telling::{Teller, kind_of};
 use diagnostic::{Fill, say};
-use strategy_syntax::{Pattern, Strategy, StrategyForm};
+use strategy_syntax::{Pattern, Place, Strategy, StrategyForm};
 use term_core::{Kind, NoMemory};
 use term_paths::at_parts;
 
@@ -117,9 +117,11 @@ impl Teller<'_> {
     ) -> bool {
         let (did, term) = (Fill::Words(did), Fill::Term(&stand.focus));
         let mut is_shown = true;
+        let mut shown = Place::nowhere();
         match place.node {
             Some(node) if self.about.is_shown(place.body, node) => {
                 let begun = begun_first(node.guard.unwrap_or(node.part.named));
+                shown = begun.place();
                 say!(self.hint; "{} {} {}", Fill::Strategy(begun), did, term);
             }
             None if place.is_choice => say!(self.hint; "each body {} {}", did, term),
@@ -145,7 +147,7 @@ impl Teller<'_> {
         let name = body.definition.name().bytes();
         self.hint.note_cause(body.module, name);
         let module = Fill::Quoted(body.module);
-        say!(self.hint; " of the module {}, {} of its text", module, Fill::LineOf(body.spot()));
+        say!(self.hint; " of the module {}, {} of its text", module, Fill::LineOf(body.spot_of(shown)));
         is_shown
     }
 
