@@ -1,5 +1,7 @@
 //! What is said of a command, as data.
 
+ghost use Rattle.std.specs.Prelude.{◌≡◌};
+
 use crate::span::{Source, Span, Spot};
 use std::alloc::Global;
 use term_core::NoMemory;
@@ -58,6 +60,8 @@ pub(crate) enum LineKind {
     Message,
     /// More of it.
     Note,
+    /// A further fault.
+    Fault,
     /// What to do.
     Help,
     /// A line of a text, or a `^` below it.
@@ -121,7 +125,7 @@ pub(crate) struct Share {
 #[derive(Drop)]
 pub struct Diagnostic {
     pub(crate) severity: Severity,
-    pub(crate) code: Code,
+    pub code: Code,
     /// The line of the command, if it stands in a script, or the file that it loads.
     pub(crate) line: u64,
     pub(crate) file: Option<Kept>,
@@ -167,6 +171,13 @@ impl Diagnostic {
         new
     }
 
+    /// With this code, whatever was said.
+    pub fn with_code(self, code: Code) -> Diagnostic
+        ensures { result.code ≡ code }
+    {
+        Diagnostic { code, ..self }
+    }
+
     /// Whether a growth of memory was refused, so that it isn't whole.
     pub fn is_broken(&self) -> bool {
         self.refused
@@ -196,6 +207,11 @@ impl Diagnostic {
     /// Begins a line that says more.
     pub fn note(&mut self) {
         self.begin(LineKind::Note);
+    }
+
+    /// Begins a line on a further fault.
+    pub fn fault(&mut self) {
+        self.begin(LineKind::Fault);
     }
 
     /// Begins a line that says what to do.

@@ -4,13 +4,14 @@ ghost use Rattle.std.specs.Prelude.{◌≤◌, ◌<◌, ◌≡◌, length, IfSom
 
 use crate::characters::{count_characters, place_of};
 
-/// A run of bytes in a text, at least one: that of a place, which can be underlined.
+/// A run of bytes in a text, at least one: that of a place, which can be underlined. Only `within` makes
+/// one.
 #[derive(Clone, Copy)]
 pub struct Span {
     /// The number of bytes before it.
-    pub start: usize,
+    pub(crate) start: usize,
     /// The number of bytes before its end.
-    pub end: usize,
+    pub(crate) end: usize,
 }
 
 impl Span {

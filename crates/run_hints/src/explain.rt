@@ -1,5 +1,7 @@
 //! Runs of commands, run again and looked at.
 
+ghost use Rattle.std.specs.Prelude.{◌≡◌, IfOk};
+
 use crate::about::About;
 use crate::observing::{Observer, RunRecord, Wanted};
 use crate::spending::sum;
@@ -17,7 +19,7 @@ use term_core::{MAX_HEIGHT, NoMemory, Term};
 use term_paths::at;
 
 /// Adds at most eight lines on why the run of a refused command ended as it did; nothing if the refusal
-/// is none of a run. The command is run again, in its session, which is left as it is.
+/// is none of a run. The command is run again, in its session, which is left as it is. The code stays.
 ///
 /// Errors: `NoMemory` if memory can't grow.
 pub fn explain_run<'a, M: Meaning>(
@@ -26,14 +28,20 @@ pub fn explain_run<'a, M: Meaning>(
     command: &ScriptCommand<'a>,
     refusal: &Refusal,
     hint: Diagnostic,
-) -> Result<Diagnostic, NoMemory> {
+) -> Result<Diagnostic, NoMemory>
+    ensures code { IfOk result (λ it. it.code ≡ hint.code) }
+{
+    let code = hint.code;
     let wanted = match refusal {
         Refusal::Fails => Wanted::Failure,
         Refusal::Spent => Wanted::Spending,
         Refusal::Big => Wanted::End,
         _ => return Ok(hint),
     };
-    look_at_own(alloc, ground, command, wanted, hint)
+    match look_at_own(alloc, ground, command, wanted, hint) {
+        Ok(explained) => Ok(explained.with_code(code)),
+        Err(NoMemory) => Err(NoMemory),
+    }
 }
 
 /// Adds at most three lines on the rule that came nearest to a match in an accepted command that

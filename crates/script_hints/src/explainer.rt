@@ -1,5 +1,8 @@
 //! What is said of a refused command.
 
+ghost use Rattle.std.specs.Prelude.{◌≡◌, IfOk};
+ghost use Rattle.session_modules.specs.Refusal.{number_of};
+
 use crate::faults::fault_of;
 use diagnostic::{
     Code, Diagnostic, Fill, Origin, Severity, Source, Span, Spot, count_characters, place_of, say,
@@ -30,7 +33,8 @@ pub struct Explainer<'a, 'm> {
     pub wrong: Option<Span>,
 }
 
-/// Why the command was refused. The ground is that of the session that refused it.
+/// Why the command was refused. The ground is that of the session that refused it. The code is the
+/// refusal's: its number, and its word or that of the fault.
 ///
 /// Errors: `NoMemory` if memory can't grow.
 pub fn explain<M: Meaning>(
@@ -38,7 +42,9 @@ pub fn explain<M: Meaning>(
     ground: &Ground<'_, M>,
     command: &ScriptCommand<'_>,
     refusal: &Refusal,
-) -> Result<Diagnostic, NoMemory> {
+) -> Result<Diagnostic, NoMemory>
+    ensures number { IfOk result (λ it. it.code.number ≡ number_of refusal.now) }
+{
     if !matches!(refusal, Refusal::Check(..) | Refusal::Fails) {
         return explain_with(alloc, ground, command, refusal, None);
     }
@@ -54,7 +60,9 @@ fn explain_with<M: Meaning>(
     command: &ScriptCommand<'_>,
     refusal: &Refusal,
     texts: Option<&ModuleTexts<'_>>,
-) -> Result<Diagnostic, NoMemory> {
+) -> Result<Diagnostic, NoMemory>
+    ensures number { IfOk result (λ it. it.code.number ≡ number_of refusal.now) }
+{
     let modules = match texts {
         Some(texts) => texts.all(alloc, &command.parts)?,
         None => Vec::new(alloc),
@@ -71,7 +79,7 @@ fn explain_with<M: Meaning>(
     let mut explainer = Explainer::new(alloc, hint, command, &modules, limits);
     let explained = explainer.explain_refusal(ground, refusal, texts);
     explainer.hint.keep(explained);
-    Ok(explainer.hint)
+    Ok(explainer.hint.with_code(code))
 }
 
 /// Where a command stands.
