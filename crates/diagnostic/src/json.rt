@@ -129,6 +129,7 @@ impl Diagnostic {
                     written.labels = self.written_labels(alloc, number)?;
                 }
                 LineKind::Note => self.write_note(alloc, number, line, "note", written)?,
+                LineKind::Fault => self.write_note(alloc, number, line, "fault", written)?,
                 LineKind::Help => self.write_note(alloc, number, line, "help", written)?,
                 LineKind::Excerpt => written.excerpt.push(self.line_text(alloc, number)?)?,
             }

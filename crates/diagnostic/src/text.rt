@@ -27,8 +27,8 @@ impl Diagnostic {
                 LineKind::Answer => ": ",
                 LineKind::Message if bytes.is_empty() => "",
                 LineKind::Message => ": ",
-                LineKind::Note | LineKind::Help if bytes.is_empty() => "",
-                LineKind::Note | LineKind::Help | LineKind::Excerpt => "\n    ",
+                LineKind::Note | LineKind::Fault | LineKind::Help if bytes.is_empty() => "",
+                LineKind::Note | LineKind::Fault | LineKind::Help | LineKind::Excerpt => "\n    ",
             };
             out.extend_from_slice(separator.as_bytes())?;
             if let (LineKind::Message, Some(subject)) = (line.kind, self.subject) {

@@ -259,7 +259,7 @@ impl<'m> Explainer<'_, 'm> {
     // Says of the faults after the first which they are and where.
     fn say_rest(&mut self, faults: &[FoundFault]) {
         for fault in faults.iter().skip(1) {
-            self.hint.note();
+            self.hint.fault();
             self.hint.words("also ");
             self.say_fault_itself(found(fault));
             if let Some(it) = self.definition_of(fault) {

@@ -4,6 +4,7 @@
 mod constructors;
 mod explainer;
 mod faults;
+mod later;
 mod limits;
 mod lines;
 mod names;

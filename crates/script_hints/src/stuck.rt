@@ -62,7 +62,8 @@ word=reserved role=binding after=other list=ends -- the word is reserved, and is
 word=reserved role=binding after=other before=rec -- the word is reserved, and is no name
 word=section role=strategy after=other list=ends -- the word is reserved, and is no name";
 
-const SECTIONS: &str = "module signature sorts constructors rules strategies";
+/// The words that begin sections and their parts.
+pub const SECTIONS: &str = "module signature sorts constructors rules strategies";
 
 /// What is around the token.
 #[derive(Clone, Copy)]
@@ -73,6 +74,8 @@ pub struct StuckToken<'a> {
     pub after: &'a [Token],
     /// The innermost form that is open before it.
     pub open: Option<OpenToken>,
+    /// The number of the token that begins the definition or the declaration that can't go on.
+    pub begin: usize,
     // The tokens before it, and those of them that belong to the definition or the declaration that
     // can't go on, or to the strategy.
     before: &'a [Token],
@@ -110,6 +113,7 @@ pub fn stuck_of<'a>(
         number,
         after,
         open,
+        begin,
         before,
         item,
         text: parts.text,
@@ -370,7 +374,8 @@ fn after_header(tokens: &[Token]) -> Option<&[Token]> {
     tokens.get(end.saturating_add(1)..)
 }
 
-fn begins_header(tokens: &[Token]) -> bool {
+/// Whether a definition or a declaration begins with these tokens.
+pub fn begins_header(tokens: &[Token]) -> bool {
     let rest = after_header(tokens).unwrap_or(&[]);
     is_sign(rest, 0, Sign::Equals) || is_sign(rest, 0, Sign::Colon)
 }

@@ -4,6 +4,7 @@ use crate::explainer::Explainer;
 use crate::stuck::{StuckToken, is_bracket, stuck_of};
 use diagnostic::{Fill, begins_with_mark, character_at, say};
 use hint_text::{token_of, tokens_of};
+use strategy_parse::StuckModule;
 use strategy_tokens::Token;
 use term_core::NoMemory;
 use text_faults::{
@@ -116,7 +117,13 @@ impl<'a> Explainer<'a, '_> {
                 let (bytes, start) = token_of(parts.text, stuck.number);
                 self.say_bad(bad_token(bytes), start);
             }
-            Some(_) => self.say_stuck(kind, &stuck, advice),
+            Some(_) => {
+                self.say_stuck(kind, &stuck, advice);
+                return self.say_later(StuckModule {
+                    item: stuck.begin,
+                    token: stuck.number,
+                });
+            }
             None => self.say_end(kind, &stuck, advice),
         }
         Ok(())
