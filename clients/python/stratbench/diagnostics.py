@@ -42,12 +42,16 @@ Telling = Callable[[Label], Optional[str]]
 
 
 class Sentence(NamedTuple):
-    """A sentence, with the places that it speaks of."""
+    """A sentence, with the places that it speaks of: the message, a note, a further fault, or a help."""
 
     text: str
     labels: tuple[Label, ...]
     kind: str = "message"
     replacement: Replacement | None = None
+
+    def first(self) -> Label | None:
+        """Returns the first place that it speaks of."""
+        return self.labels[0] if self.labels else None
 
     def told(self, telling: Telling = lambda _: None) -> str:
         """Returns the sentence, with other words for some of the places."""
@@ -87,7 +91,7 @@ class Diagnostic(NamedTuple):
 
     def first(self) -> Label | None:
         """Returns the first place that the message speaks of."""
-        return self.message.labels[0] if self.message.labels else None
+        return self.message.first()
 
 
 def told(it: Diagnostic) -> str:

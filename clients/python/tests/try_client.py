@@ -37,6 +37,36 @@ REFUSED = [
 ]  # fmt: skip
 
 
+# Scripts and modules as `stratbench.problems` is given them, with options, and the lines that it prints, less those that are indented.
+PROBLEMS = [
+    ("script", [], "tree t a\napply t do id; revers\n", ["script:2:16: error: refused 11 unknown revers 0 0: at line 2, column 16"]),
+    ("m.str", [], "module m\n strategies\n  f = g\n  h = k; k\n", [
+        "m.str:3:7: error: refused 11 unknown g 0 0: in `f` of the module `m`, line 3, column 7",
+        "m.str:4:7: error: also unknown k 0 0, in `h` of the module `m`, line 4, column 7",
+        "m.str:4:10: error: also unknown k 0 0, in `h` of the module `m`, line 4, column 10"]),
+    ("m.str", [], "module m\n rules\n  R : A() -> B() C\n  S : x -> x\n  T : ( -> x\n", [
+        "m.str:4:3: error: refused 10 syntax: module m: no module goes on with `S` at line 4, column 3",
+        "m.str:5:9: error: no module goes on with `->` at line 5, column 9, either"]),
+    ("m.str", ["--check"], "module m\n rules\n  R : (y,y) -> x\n", ["m.str:3:16: warning: in `R`, line 3, column 16: `x` is only on the right side: nothing binds it"]),
+    ("script", [], "show none\nundo\n", [
+        "script:1: error: refused 5 notree: there is no tree `none`", "script:2: error: refused 15 noundo: there are 0 steps to undo"]),
+    ("script", ["--steps=x"], "", ["error: invalid value 'x' for '--steps <N>': invalid digit found in string", "For more information, try '--help'."]),
+    ("script", ["--profile"], "tree t a\napply t do id\n", ["script:2: warning: the strategy replaced nothing"]),
+]  # fmt: skip
+
+
+def problems():
+    for name, options, text, wanted in PROBLEMS:
+        with tempfile.TemporaryDirectory() as room:
+            with open(f"{room}/{name}", "w", encoding="utf-8") as it:
+                it.write(text)
+            environment = {**os.environ, "PYTHONPATH": os.path.dirname(os.path.dirname(__file__))}
+            words = [sys.executable, "-m", "stratbench.problems", *options, name]
+            ran = subprocess.run(words, cwd=room, env=environment, capture_output=True, text=True)
+        lines = [line for line in ran.stdout.splitlines() if line and not line.startswith(" ")]
+        yield f"problems of {text!r:.40}", "" if lines == wanted and not ran.stderr else f"{ran.stdout}{ran.stderr}"
+
+
 def explained():
     with Stratbench() as bench:
         bench.tree("old", "f(a,b)")
@@ -240,6 +270,7 @@ def tests(top, everything):
         found = doctest.testmod(importlib.import_module(f"stratbench.{name}"))
         yield f"the examples of {name}", "" if found.attempted and not found.failed else f"{found}"
     yield from explained()
+    yield from problems()
     yield from all_parts()
     yield from long_texts()
     yield from limits()

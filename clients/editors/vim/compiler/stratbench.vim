@@ -1,5 +1,5 @@
-" Vim compiler file: runs the script in the buffer, and makes a list of the places that are explained.
-" A place in a file that --module or --tree loads leads there, any other into the script.
+" Vim compiler file: looks at the script or the module in the buffer, and makes a list of what is wrong with it. The client for Python
+" prints the places in the form of compilers.
 
 if exists("current_compiler")
   finish
@@ -12,24 +12,11 @@ endif
 
 " Set g:stratbench_options to what the scripts need, as in "--library --module rules=rules.str".
 let s:options = get(g:, "stratbench_options", "--library")
-" Lines on a script don't name it, so its name comes before them.
-let s:command = "(echo script: %:S; stratbench --explain " . s:options . " %:S)"
-execute "CompilerSet makeprg=" . escape(s:command, ' \|"')
+execute "CompilerSet makeprg=" . escape("python3 -m stratbench.problems " . s:options . " %:S", ' \|"')
 
 let s:formats = [
-  \ '%-Pscript: %f',
-  \ '%+Estratbench: line %l: %.%\{-}line %*\d\, column %*\d of its text%.%#',
-  \ '%+Wstratbench: line %*\d: warning: %.%\{-}line %l\, column %c%.%#',
-  \ '%+Estratbench: line %*\d: refused %.%\{-}line %l\, column %c%.%#',
-  \ '%+Wstratbench: line %l: warning: %.%#',
-  \ '%+Estratbench: line %l: refused %.%#',
-  \ '%+Estratbench: %f: refused %.%\{-}line %*\d\, column %*\d of its text%.%#',
-  \ '%+Wstratbench: %f: warning: %.%\{-}line %l\, column %c%.%#',
-  \ '%+Estratbench: %f: refused %.%\{-}line %l\, column %c%.%#',
-  \ '%+Estratbench: %f: refused %.%#',
-  \ '%+Estratbench: %*[a-z ] fault: %f',
-  \ '%+Estratbench: no memory: %f',
-  \ '%+C    %.%#',
+  \ '%f:%l:%c: %t%*[a-z]: %m',
+  \ '%f:%l: %t%*[a-z]: %m',
   \ '%-G%.%#',
   \ ]
 execute "CompilerSet errorformat=" . escape(join(s:formats, ","), ' \|"')
