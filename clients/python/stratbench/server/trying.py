@@ -1,0 +1,52 @@
+"""Definitions tried on terms: a comment `// > S on T`, or `// example: S on T ..`, stands for applying the strategy S to the term T."""
+
+from __future__ import annotations
+
+import re
+import subprocess
+from collections.abc import Iterator
+from typing import Final, NamedTuple
+
+from ..diagnostics import parsed
+from .faults import with_files
+from .folder import Folder
+from .texts import Text
+
+_TRIAL: Final = re.compile(r"// *(?:>|example:) *(?P<strategy>.+) on (?P<term>.+?)(?: (?P<wanted>gives .+|fails))? *$")
+# How long the program may take.
+_SECONDS: Final = 20
+
+
+class Trial(NamedTuple):
+    """A strategy and a term in a comment, and the comment's place."""
+
+    strategy: str
+    term: str
+    begin: int
+    end: int
+
+
+def trials(text: Text) -> Iterator[Trial]:
+    """Yields the trials in the comments of a module.
+
+    >>> [it[:2] for it in trials(Text("// > try(id) on F(1)\\nrules // example: R on 2 gives 3\\n// on"))]
+    [('try(id)', 'F(1)'), ('R', '2')]
+    """
+    for token in text.module.tokens:
+        found = _TRIAL.fullmatch(token.text) if token.kind == "comment" else None
+        if found:
+            yield Trial(found["strategy"], found["term"], token.begin, token.end)
+
+
+def outcome(folder: Folder, own: str, strategy: str, term: str) -> tuple[bool, str]:
+    """Returns whether a strategy gives a term of a term, with the modules of the folder, and which, or what is said of it."""
+    script = f"tree t {term}\napply t do {strategy}\nshow t\n"
+    with with_files(folder, own) as (words, _):
+        ran = subprocess.run(
+            [folder.program, "--lines", "--explain=json", *words], input=script.encode(), stdout=subprocess.PIPE, stderr=subprocess.PIPE, timeout=_SECONDS
+        )
+    lines = ran.stdout.decode(errors="replace").splitlines()
+    if lines[:2] == ["ok", "ok"]:
+        return True, lines[2]
+    said = [it for it in parsed(ran.stderr.decode(errors="replace")) if it.severity == "refusal"]
+    return False, "\n".join(f"{it.answer}: {it.told()}" for it in said[:1]) or ran.stderr.decode(errors="replace")

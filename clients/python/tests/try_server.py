@@ -1,0 +1,379 @@
+"""The language server: what it answers, over its protocol and through Neovim's own client, which is installed where that can be done."""
+
+import doctest
+import glob
+import importlib
+import os
+import random
+import re
+import shutil
+import statistics
+import subprocess
+import sys
+import tempfile
+import time
+
+import packages
+from stratbench.server import answers, layout, reading
+from stratbench.server.folder import Folder
+from stratbench.server.messages import receive, send
+from stratbench.server.texts import Text, path_of, uri_of
+
+CLIENT = os.path.dirname(os.path.dirname(os.path.realpath(__file__)))
+EXAMPLE = re.compile(r"^ *// example: (.+) on (.+?) (?:gives .+|fails)$", re.MULTILINE)
+# How many names are changed, and how many mistakes are made.
+RENAMED, MISTAKES, MODULES = 100, 60, 40
+
+
+class Editor:
+    """An editor that speaks to the server."""
+
+    def __init__(self):
+        environment = {**os.environ, "PYTHONPATH": CLIENT}
+        self.server = subprocess.Popen([sys.executable, "-m", "stratbench.server"], stdin=subprocess.PIPE, stdout=subprocess.PIPE, env=environment)
+        self.number = 0
+        self.told = {}
+        self.ask("initialize", processId=None, rootUri=None, capabilities={})
+        self.note("initialized")
+
+    def note(self, method, **given):
+        send(self.server.stdin, {"method": method, "params": given})
+
+    def ask(self, method, **given):
+        self.number += 1
+        send(self.server.stdin, {"id": self.number, "method": method, "params": given})
+        while True:
+            message = self.next()
+            if message.get("id") == self.number:
+                return message["error"] if "error" in message else message["result"]
+
+    def next(self):
+        message = receive(self.server.stdout)
+        if message is None:
+            raise EOFError
+        if message.get("method") == "textDocument/publishDiagnostics":
+            self.told[path_of(message["params"]["uri"])] = message["params"]["diagnostics"]
+        return message
+
+    def diagnostics(self, path):
+        """The next diagnostics of a file."""
+        self.told.pop(path, None)
+        while path not in self.told:
+            self.next()
+        # those of the folder's other files come before the answer to what is asked then
+        self.ask("workspace/symbol", query="")
+        return self.told[path]
+
+    def open(self, path, text):
+        self.note("textDocument/didOpen", textDocument={"uri": uri_of(path), "languageId": "stratego", "version": 1, "text": text})
+
+    def change(self, path, text):
+        self.note("textDocument/didChange", textDocument={"uri": uri_of(path), "version": 2}, contentChanges=[{"text": text}])
+
+    def end(self):
+        self.ask("shutdown")
+        self.note("exit")
+        self.server.stdin.close()
+        self.server.stdout.close()
+        return self.server.wait()
+
+
+def general(top):
+    """The modules for all languages."""
+    languages = {os.path.basename(os.path.dirname(it)) for it in glob.glob(f"{CLIENT}/stratbench/languages/*/__init__.py")}
+    return [it for it in sorted(glob.glob(f"{top}/strategies/*.str")) if os.path.basename(it).removesuffix(".str").split("-")[0] not in languages]
+
+
+def contents(path):
+    with open(path, encoding="utf-8") as it:
+        return it.read()
+
+
+def written(room, name, text):
+    path = os.path.join(room, name)
+    with open(path, "w", encoding="utf-8") as it:
+        it.write(text)
+    return path
+
+
+# A module with a mistake or what may be one, and the line, the first and the last column and the severity of what is said of it.
+SAID = [
+    ("strategies\n  f = revers\n", [(1, 6, 12, 1)]),
+    ("strategies\n  f = g; h\n  k = l\n", [(1, 6, 7, 1), (1, 9, 10, 1), (2, 6, 7, 1)]),
+    ("rules\n  R : x -> (y,x) y\n  S : ( -> x\n  T : x -> x)\n", [(2, 2, 3, 1), (2, 8, 10, 1), (3, 12, 13, 1)]),
+    ("strategies\nf = g\n", [(1, 4, 5, 1)]),
+    ("rules\n  R : x -> y\n", [(1, 11, 12, 2)]),
+    ("strategies\n  f = topdown(try(?(x,y); !(y,x)))\n", [(1, 20, 21, 2)]),
+    ("strategies\n  f = !\"ü𝄞\"; g\n", [(1, 14, 15, 1)]),
+    ("strategies\n  f = \"\n", [(1, 6, 7, 1)]),
+    ("strategies\n  f = (id", [(1, 6, 7, 1)]),
+    ("strategies\n  f = id\n", []),
+]
+
+
+def said():
+    with tempfile.TemporaryDirectory() as room:
+        editor = Editor()
+        path = os.path.join(room, "m.str")
+        editor.open(path, "")
+        editor.diagnostics(path)
+        for text, wanted in SAID:
+            editor.change(path, text)
+            found = [
+                (it["range"]["start"]["line"], it["range"]["start"]["character"], it["range"]["end"]["character"], it["severity"])
+                for it in editor.diagnostics(path)
+            ]
+            yield f"what is said of {text!r:.60}", "" if found == wanted else f"{found}\n{editor.told[path]}"
+        # a fault in another module of the folder, whose lines begin in the first column
+        other = written(room, "other.str", "module other\nstrategies\nf = missing\n  g = id\n")
+        editor.change(path, "module m strategies h = g; gone")
+        own, there = editor.diagnostics(path), editor.told.get(other, [])
+        yield "faults in two modules", "" if [it["range"]["start"] for it in own + there] == [
+            {"line": 0, "character": 27}, {"line": 2, "character": 4}] else f"{own} {there}"  # fmt: skip
+        # what may be written instead
+        editor.change(path, "module m strategies hello = g  k = helo")
+        written(room, "other.str", "module other strategies g = id")
+        editor.note("textDocument/didSave", textDocument={"uri": uri_of(path)})
+        found = [it for it in editor.diagnostics(path) if it.get("data")]
+        actions = editor.ask("textDocument/codeAction", textDocument={"uri": uri_of(path)}, range={}, context={"diagnostics": found})
+        edits = [edit for it in actions for edit in it["edit"]["changes"][uri_of(path)]]
+        wanted = [{"range": {"start": {"line": 0, "character": 35}, "end": {"line": 0, "character": 39}}, "newText": "hello"}]
+        yield "a fix", "" if edits == wanted else f"{found} {edits}"
+        editor.note("textDocument/didClose", textDocument={"uri": uri_of(path)})
+        editor.ask("workspace/symbol", query="")
+        # what nothing calls, where the settings name what is called from outside
+        written(room, "stratbench.json", '{"modules": ["m.str"], "library": false, "entries": ["main"]}')
+        editor.open(path, "strategies main = f  f = id  g = f  try(s) = s <+ id")
+        found = [it["message"] for it in editor.diagnostics(path)]
+        yield "the folder's settings", "" if found == ["nothing calls `g`", "nothing calls `try(s)`"] else f"{found}"
+        written(room, "stratbench.json", "{")
+        editor.change(path, "strategies main = id")
+        message = editor.next()
+        yield "settings that are wrong", "" if message["method"] == "window/showMessage" and "stratbench.json" in message["params"]["message"] else f"{message}"
+        # definitions that are tried on terms in comments
+        os.remove(os.path.join(room, "stratbench.json"))
+        editor.change(path, "strategies\n  // > swap on (1,g(2))\n  swap = ?(x,y); !(y,x)\n  // example: swap on A fails\n")
+        lenses = editor.ask("textDocument/codeLens", textDocument={"uri": uri_of(path)})
+        shown = [editor.ask("workspace/executeCommand", **{key: it["command"][key] for key in ("command", "arguments")}) for it in lenses]
+        wanted = ["(g(2),1)", "refused 12 fails: it was applied to the constant `A`"]
+        yield "definitions that are tried", "" if [it.split("\n")[0] for it in shown] == wanted else f"{lenses} {shown}"
+        fault = editor.ask("textDocument/nothing")
+        yield "an unknown request", "" if fault.get("code") == -32601 else f"{fault}"
+        yield "the status", "" if editor.end() == 0 else "it isn't 0"
+
+
+# Modules with `^` under a name, a new name, and the texts after it; or why it can't be changed.
+CHANGED = [
+    ("strategies f(s) = s; s  g = f(id); f", "           ^", "h", "strategies h(s) = s; s  g = h(id); f"),
+    ("strategies f(s) = s; !s  g(s) = s", "             ^", "t", "strategies f(t) = t; !s  g(s) = s"),
+    ("strategies f(s) = s; !s  g = !s", "                      ^", "x", "strategies f(s) = s; !x  g = !s"),
+    ("strategies f(|x) = ?x; \\ x -> x \\; {x: !x}", "              ^", "y", "strategies f(|y) = ?y; \\ x -> x \\; {x: !x}"),
+    ("strategies f = ?x; \\ x -> y where !x; ?y \\; !y", "                     ^", "z", "strategies f = ?x; \\ z -> y where !z; ?y \\; !y"),
+    ("strategies f = rec a(a; rec a(a))", "                     ^", "b", "strategies f = rec b(b; rec a(a))"),
+    ("signature constructors C : s  C : s -> s strategies f = ?C(); C; C(id)", "                       ^", "D",
+     "signature constructors D : s  C : s -> s strategies f = ?D(); D; C(id)"),
+    ("strategies f = id  g = f", "           ^", "g", "there is a definition `g` with as many parameters"),
+    ("strategies f = id  g(h) = f; h", "           ^", "h", "a parameter `h` would hide it"),
+    ("strategies f = ?x; !y", "                ^", "y", "`y` stands for something else in `f`"),
+    ("strategies f = ?x", "                ^", "if", "`if` is no name"),
+    ("strategies f = ?x", "                ^", "x y", "`x y` is no name"),
+    ("strategies f = try(id)", "               ^", "tries", "`try` is of the library"),
+]  # fmt: skip
+
+
+def renamed():
+    for text, mark, new, wanted in CHANGED:
+        with tempfile.TemporaryDirectory() as room:
+            path = os.path.join(room, "m.str")
+            editor = Editor()
+            editor.open(path, text)
+            given = {"textDocument": {"uri": uri_of(path)}, "position": {"line": 0, "character": len(mark) - 1}}
+            found = editor.ask("textDocument/rename", newName=new, **given)
+            editor.end()
+        got = "no name" if found is None else found["message"] if "message" in found else changed(Text(text), found["changes"].get(uri_of(path), []))
+        yield f"{text!r:.50}, {new}", "" if got == wanted else f"{got}"
+
+
+def changed(text, edits):
+    """The text after these edits."""
+    for it in sorted(edits, key=lambda it: (it["range"]["start"]["line"], it["range"]["start"]["character"]), reverse=True):
+        text = text.changed({"range": it["range"], "text": it["newText"]})
+    return text.text
+
+
+def answered(room, files, terms):
+    """What the program answers to each example, in the module of examples of a folder."""
+    words = [os.environ["STRATBENCH"], "--library", *[f"--module={os.path.basename(it)[:-4]}={it}" for it in files]]
+    script = "".join(f"tree t{number} {term}\napply t{number} do example-{number}\nshow t{number}\n" for number, term in enumerate(terms))
+    ran = subprocess.run(words, input=script, capture_output=True, text=True, cwd=room)
+    return ran.stdout + ran.stderr
+
+
+def names_change(top):
+    """A hundred names of the modules are changed, one after the other, in all of them and in their examples."""
+    choose = random.Random(1)
+    with tempfile.TemporaryDirectory() as room:
+        files = [shutil.copy(it, room) for it in general(top)]
+        examples = [it for file in files for it in EXAMPLE.findall(contents(file))]
+        text = "strategies\n" + "".join(f"  example-{n} = {s}\n" for n, (s, _) in enumerate(examples))
+        used = {(it.name, it.strategies) for it in reading.read(text).names if it.kind in ("constructor", "use") and it.name[0].isupper()}
+        declared = [f"  {name} : {' * '.join('t' * count)}{' -> ' * (count > 0)}t\n" for name, count in sorted(used)]
+        files.append(written(room, "examples.str", "module examples signature constructors\n" + "".join(declared) + text))
+        terms = [term for _, term in examples]
+        before = answered(room, files, terms)
+        folder = Folder(room, {}, os.environ["STRATBENCH"])
+        every = [(file, it) for file in files for it in folder.text(file).module.names if not file.endswith("examples.str")]
+        every = [it for it in every if it[1].kind in ("definition", "use", "strategy", "term", "rec", "variable")]
+        choose.shuffle(every)
+        done, faults = 0, []
+        for number, (file, name) in enumerate(every):
+            new = f"new-name-{number}"
+            if answers.refusal(folder, file, name, new):
+                continue
+            edits = answers.rename(folder, file, name, new)["changes"]
+            old = {path_of(uri): contents(path_of(uri)) for uri in edits}
+            for uri, its in edits.items():
+                written(room, path_of(uri), changed(folder.text(path_of(uri)), its))
+            if answered(room, files, terms) != before:
+                faults.append(f"{os.path.basename(file)}: {name.name} at {name.begin}")
+            for path, text in old.items():
+                written(room, path, text)
+            done += 1
+            if done == RENAMED:
+                break
+        others = re.findall("^(?:refused (?!12 ).*|stratbench: .*)$", before, re.MULTILINE)
+        few = "" if done == RENAMED and len(terms) > 100 and not others else f"{done} names, {len(terms)} examples, {others[:3]}"
+        yield f"{done} names change, and no answer to {len(terms)} examples", few or "\n".join(faults[:5])
+
+
+def mistakes(top):
+    """Mistakes in a folder of forty modules are told in the definitions that have them, while somebody types."""
+    choose = random.Random(2)
+    with tempfile.TemporaryDirectory() as room:
+        files = [shutil.copy(it, room) for it in general(top)]
+        for number in range(MODULES - len(files)):
+            text = f"module more-{number}\nstrategies\n" + "".join(f"  more-{number}-{n}(s) = try(s); all(more-{number}-{n}(s))\n" for n in range(20))
+            files.append(written(room, f"more-{number}.str", text))
+        editor, seconds, wrong = Editor(), [], []
+        opened = {}
+        for number in range(MISTAKES):
+            file = choose.choice(files)
+            text = contents(file)
+            if file not in opened:
+                editor.open(file, text)
+                opened[file] = text
+                editor.diagnostics(file)
+            module = reading.read(text)
+            use = choose.choice([it for it in module.names if it.kind == "use"])
+            inside = next(it for it in module.definitions if it.begin <= use.begin < it.end)
+            begun = time.monotonic()
+            editor.change(file, text[: use.end] + "-lost" + text[use.end :])
+            found = editor.diagnostics(file)
+            seconds.append(time.monotonic() - begun)
+            places = [Text(text).place(it["range"]["start"]) for it in found]
+            if not any(inside.begin <= place < inside.end for place in places):
+                wrong.append(f"{number}: {os.path.basename(file)}: {use.name} in {inside.name}: {found}")
+            editor.change(file, text)
+            left = editor.diagnostics(file)
+            if left:
+                wrong.append(f"{number}: {os.path.basename(file)}: {left}")
+        editor.end()
+        took = f"{1000 * statistics.median(seconds):.0f} ms in the median, {1000 * max(seconds):.0f} at most"
+        yield f"{MISTAKES} mistakes in {len(files)} modules, {took}", "\n".join(wrong[:5])
+
+
+def layouts(top):
+    """Each module is laid out: it is the same program, and laid out again it stays."""
+    faults = []
+    files = sorted(glob.glob(f"{top}/strategies/*.str") + glob.glob(f"{top}/examples/*/*.str"))
+    choose = random.Random(3)
+    for file in files:
+        text = contents(file)
+        spread = re.sub(r"\n *", lambda it: "\n" + " " * choose.randrange(9), text)
+        for it in (text, spread):
+            new = layout.laid_out(it)
+            plain = [[token.text for token in reading.tokens_of(one) if token.kind != "comment"] for one in (it, new)]
+            comments = [[" ".join(token.text.split()) for token in reading.tokens_of(one) if token.kind == "comment"] for one in (it, new)]
+            if plain[0] != plain[1] or comments[0] != comments[1] or layout.laid_out(new) != new:
+                faults.append(file)
+    yield f"the layout of {len(files)} modules", "\n".join(faults)
+
+
+def read_all(top):
+    """Each name of each module is known."""
+    faults = []
+    files = sorted(glob.glob(f"{top}/strategies/*.str") + glob.glob(f"{top}/examples/*/*.str"))
+    for file in files:
+        module = reading.read(contents(file))
+        known = {it.begin for it in module.names}
+        faults += [f"{file}: {it.text} at {it.begin}" for it in module.tokens if it.kind == "name" and it.text != "_" and it.begin not in known]
+    yield f"the names of {len(files)} modules", "\n".join(faults[:5])
+
+
+MODULE = "module m\nstrategies\n  // s, two times\n  twice(s) = s; s\n  four(s) = twice(twice(s))\n"
+THROUGH_NEOVIM = """diagnostic\t3:13-17\t11 unknown nope 0 0: in `twice` of the module `m`, line 4, column 14
+none left\ttrue
+completion\ttwice(s)\ttwice(${1:s})\tm
+definition\t1
+renamed\tmodule m
+renamed\tstrategies
+renamed\t  // s, two times
+renamed\t  double(s) = s; s
+renamed\t  four(s) = double(double(s))
+"""
+
+
+def through_neovim():
+    why = "" if shutil.which("nvim") else packages.installed("neovim")
+    if not shutil.which("nvim"):
+        yield "through Neovim: left out, since there is none", why if os.environ.get("CI") else ""
+        return
+    with tempfile.TemporaryDirectory() as room:
+        path = written(room, "m.str", MODULE)
+        environment = {**os.environ, "PYTHONPATH": CLIENT, "OUT": f"{room}/out", "FILE": path, "PYTHON": sys.executable, "HOME": room}
+        script = f"luafile {os.path.dirname(os.path.realpath(__file__))}/neovim.lua"
+        words = ["nvim", "--headless", "-u", "NONE", "-i", "NONE", "-n", "-c", script]
+        ran = subprocess.run(words, cwd=room, env=environment, capture_output=True, text=True, stdin=subprocess.DEVNULL, timeout=300)
+        found = contents(f"{room}/out") if os.path.exists(f"{room}/out") else ""
+        yield "through Neovim", "" if found == THROUGH_NEOVIM else f"{found}{ran.stderr}"
+        # the server runs in this folder, and ends once it reads that its input has
+        until = time.monotonic() + 300
+        while (left := [it for it in glob.glob("/proc/[0-9]*/cwd") if real(it) == room]) and time.monotonic() < until:
+            time.sleep(0.05)
+        yield "nothing is left running", "\n".join(left)
+
+
+def real(link):
+    try:
+        return os.readlink(link)
+    except OSError:
+        return None
+
+
+def ends():
+    """The server ends with its input."""
+    for how in ("the end of the input", "exit"):
+        editor = Editor()
+        if how == "exit":
+            editor.note("exit")
+        else:
+            editor.server.stdin.close()
+        status = editor.server.wait(timeout=60)
+        yield f"{how}, with no shutdown before", "" if status == 1 else f"status {status}"
+        if how == "exit":
+            editor.server.stdin.close()
+        editor.server.stdout.close()
+
+
+def tests(top, everything):
+    for name in ("reading", "layout", "texts", "messages", "trying"):
+        found = doctest.testmod(importlib.import_module(f"stratbench.server.{name}"))
+        yield f"the examples of {name}", "" if found.attempted and not found.failed else f"{found}"
+    yield from read_all(top)
+    yield from layouts(top)
+    yield from said()
+    yield from renamed()
+    yield from ends()
+    yield from mistakes(top)
+    yield from names_change(top)
+    yield from through_neovim()
