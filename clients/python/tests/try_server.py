@@ -343,6 +343,37 @@ def through_neovim():
         yield "nothing is left running", "\n".join(left)
 
 
+BY_CODE = """diagnostics 0
+diagnostic 3 16 3 20 0 11 unknown twic 0 0: in `twice` of the module `m`, line 4, column 17
+fix [[[3,16,3,20],"twice"]]
+diagnostics 0
+completion twice(s) twice(${1:s})
+hover twice(s) = s; s
+definitions 1
+references 3
+rename [[[3,2,3,7],"double"],[[4,12,4,17],"double"],[[4,18,4,23],"double"]]
+symbols G twice(s) four(s)
+tokens 0
+layout 0
+signature twice(s)
+message: four(\\ G(x) -> x \\) on G(G(G(G(1)))) gives 1
+"""
+
+
+def by_code(top):
+    """VS Code's extension, which is started as VS Code starts it."""
+    if not shutil.which("node"):
+        yield "VS Code's extension: left out, since there is no node", "node is missing" if os.environ.get("CI") else ""
+        return
+    with tempfile.TemporaryDirectory() as room:
+        text = MODULE.replace("strategies", "signature constructors G : t -> t strategies") + "  // > four(\\ G(x) -> x \\) on G(G(G(G(1))))\n"
+        path = written(room, "m.str", text)
+        words = ["node", f"{CLIENT}/tests/vscode.js", f"{top}/clients/editors/vscode", path]
+        environment = {**os.environ, "PYTHONPATH": CLIENT, "PYTHON": sys.executable}
+        ran = subprocess.run(words, env=environment, capture_output=True, text=True, timeout=300)
+        yield "VS Code's extension", "" if ran.stdout == BY_CODE and not ran.stderr else ran.stdout + ran.stderr
+
+
 def real(link):
     try:
         return os.readlink(link)
@@ -377,3 +408,4 @@ def tests(top, everything):
     yield from mistakes(top)
     yield from names_change(top)
     yield from through_neovim()
+    yield from by_code(top)
