@@ -343,6 +343,27 @@ def through_neovim():
         yield "nothing is left running", "\n".join(left)
 
 
+THROUGH_EMACS = """mode\tstratego-mode
+diagnostic\tstratbench [unknown]: 11 unknown nope 0 0: in `twice` of the module `m`, line 4, column 17
+renamed\tmodule m|strategies|  // s, two times|  double(s) = s; s|  four(s) = double(double(s))|
+"""
+
+
+def through_emacs(top):
+    """Emacs with Eglot, which isn't installed for this: it takes minutes."""
+    eglot = sorted(glob.glob("/usr/share/emacs/site-lisp/elpa-src/eglot-*/eglot.el"))
+    if not shutil.which("emacs") or not eglot:
+        yield "through Emacs: left out, since Emacs or Eglot isn't there", ""
+        return
+    with tempfile.TemporaryDirectory() as room:
+        path = written(room, "m.str", MODULE)
+        mode = f"{top}/clients/editors/emacs/stratego-mode.el"
+        environment = {**os.environ, "PYTHONPATH": CLIENT, "MODE": mode, "FILE": path, "PYTHON": sys.executable, "HOME": room}
+        words = ["emacs", "-Q", "--batch", "-l", eglot[-1], "-l", f"{CLIENT}/tests/eglot.el"]
+        ran = subprocess.run(words, cwd=room, env=environment, capture_output=True, text=True, stdin=subprocess.DEVNULL, timeout=300)
+        yield "through Emacs", "" if ran.stdout == THROUGH_EMACS else ran.stdout + ran.stderr
+
+
 BY_CODE = """diagnostics 0
 diagnostic 3 16 3 20 0 11 unknown twic 0 0: in `twice` of the module `m`, line 4, column 17
 fix [[[3,16,3,20],"twice"]]
@@ -408,4 +429,5 @@ def tests(top, everything):
     yield from mistakes(top)
     yield from names_change(top)
     yield from through_neovim()
+    yield from through_emacs(top)
     yield from by_code(top)
