@@ -18,21 +18,22 @@ def patch_of(source: Source, new: Term) -> Patch:
     there once. Raises `NoTerm` and `Unwritable`."""
     with deep():
         patcher = Patcher(source, new)
-        if patcher.new.head != "Module":
+        trees = patcher.trees
+        if trees.new.head != "Module":
             raise NoTerm("the tree is no Module")
-        if patcher.new is patcher.old:
+        if trees.new is trees.old:
             return Patch([], [])
         try:
-            from_term(patcher.new)
+            from_term(trees.new)
         except NoTerm as error:
             raise NoTerm(f"line {source.lines.number(error.place[0])}: {error}" if error.place else str(error)) from None
         why = ""
         for plain in (False, True):
-            patcher.plain = plain
+            trees.plain = plain
             try:
                 found = patcher.patch()
                 text = apply_edits(source.text, 0, len(source.text), found.edits)
-                if same_tree(to_term(parse(text.decode())), patcher.new):
+                if same_tree(to_term(parse(text.decode())), trees.new):
                     return found
             except (Cannot, NoTerm):
                 pass

@@ -5,56 +5,63 @@ from __future__ import annotations
 import tokenize
 
 from ....terms import LIST, Term
-from .base import Place
+from .commas import Commas
 from .edits import BLOCKS, PASS, PLACES, Cannot, Edit, aligned, field_of, span
+from .fresh import Fresh
 from .markers import name_of
+from .moved import Moved
+from .nodes import Nodes
 from .statements import Statements
+from .trees import Place, Trees
 
 
-class Clauses(Statements):
+class Clauses:
     """The edits of these parts."""
 
-    # The edits for a block of a statement, with its `else` or `finally`.
-    def _clause(self, old: Term, new: Term, name: str) -> list[Edit]:
+    def __init__(self, trees: Trees, fresh: Fresh, commas: Commas, nodes: Nodes, moved: Moved, statements: Statements) -> None:
+        self._trees, self._fresh, self._commas, self._nodes, self._moved, self._statements = trees, fresh, commas, nodes, moved, statements
+
+    def clause(self, old: Term, new: Term, name: str) -> list[Edit]:
+        """The edits for a block of a statement, with its `else` or `finally`."""
         one, two = field_of(old, name).children, field_of(new, name).children
-        outer = self._indent(self._case(old) if old.head == "match_case" else span(old)[0])
-        inner = outer + self.tokens.unit
+        outer = self._trees.indent(self._case(old) if old.head == "match_case" else span(old)[0])
+        inner = outer + self._trees.tokens.unit
         if name == "body":
-            return self._block(old, new, name, inner)
+            return self._statements.block(old, new, name, inner)
         word = b"finally" if name == "finalbody" else b"else"
         if not one:
-            return [self._line_after(self._last_before(old, name), outer + self._alternative(two, outer, inner, word), outer)]
-        begin, end = self._begin(one[0]), span(one[-1])[1]
-        is_elif = old.head == "If" and len(one) == 1 and one[0].head == "If" and self.text[begin:].startswith(b"elif")
+            return [self._statements.line_after(self._last_before(old, name), outer + self._alternative(two, outer, inner, word), outer)]
+        begin, end = self._trees.begin(one[0]), span(one[-1])[1]
+        is_elif = old.head == "If" and len(one) == 1 and one[0].head == "If" and self._trees.text[begin:].startswith(b"elif")
         if not two:
             start = begin
             if not is_elif:
-                at = self.tokens.before(begin)
-                while self.tokens.tokens[at].text not in ("else", "finally"):
+                at = self._trees.tokens.before(begin)
+                while self._trees.tokens.tokens[at].text not in ("else", "finally"):
                     at -= 1
-                start = self.tokens.tokens[at].first
+                start = self._trees.tokens.tokens[at].first
             else:
-                start = self._leading_comments(start, self.carried)
+                start = self._trees.leading_comments(start, self._trees.carried)
             # with the comments at its end
-            end = self._tail(self._statement_end(one[-1])[0], outer, False)
-            return [Edit(self._line_start(start), self._line_end(end)[1], b"")]
+            end = self._trees.tail(self._trees.statement_end(one[-1])[0], outer, False)
+            return [Edit(self._trees.line_start(start), self._trees.line_end(end)[1], b"")]
         if not is_elif:
-            if self._all_in(two) & {id(it) for it in one}:
+            if self._statements.all_in(two) & {id(it) for it in one}:
                 # what is said of the block is said of them
-                self.staying.add(id(field_of(old, name)))
-            return self._block(old, new, name, inner)
-        if len(two) == 1 and two[0].head == "If" and self._origin(two[0]) in (None, one[0]) and not self.plain:
-            found = self._tried(lambda: self._inside(one[0], two[0]))
+                self._trees.staying.add(id(field_of(old, name)))
+            return self._statements.block(old, new, name, inner)
+        if len(two) == 1 and two[0].head == "If" and self._trees.origin(two[0]) in (None, one[0]) and not self._trees.plain:
+            found = self._trees.tried(lambda: self._nodes.inside(one[0], two[0]))
             if found is not None:
                 return found
-        begin = self._leading_comments(begin, self.carried)
-        return [Edit(begin, self._end_with_comments(one[0]), self._alternative(two, outer, inner, word))]
+        begin = self._trees.leading_comments(begin, self._trees.carried)
+        return [Edit(begin, self._moved.end_with_comments(one[0]), self._alternative(two, outer, inner, word))]
 
     # An `else` or a `finally` made anew, or an `elif`.
     def _alternative(self, new: tuple[Term, ...], outer: bytes, inner: bytes, word: bytes) -> bytes:
-        if word == b"else" and len(new) == 1 and new[0].head == "If" and self._is_elif(new[0]):
-            return b"el" + self._rendered(new, outer)
-        return word + b":" + self.newline + inner + self._rendered(new, inner)
+        if word == b"else" and len(new) == 1 and new[0].head == "If" and self._fresh.is_elif(new[0]):
+            return b"el" + self._moved.rendered(new, outer)
+        return word + b":" + self._trees.newline + inner + self._moved.rendered(new, inner)
 
     def _last_before(self, old: Term, name: str) -> Term:
         last = field_of(old, "body").children[-1]
@@ -77,11 +84,11 @@ class Clauses(Statements):
                 return field_of(last, "body").children[-1] if name == "handlers" else last
         raise Cannot
 
-    # The handlers of a `try`, or the cases of a `match`.
-    def _parts(self, old: Term, new: Term, name: str) -> list[Edit]:
+    def parts(self, old: Term, new: Term, name: str) -> list[Edit]:
+        """The handlers of a `try`, or the cases of a `match`."""
         one, two = field_of(old, name).children, field_of(new, name).children
         homes = {id(self._named(it)): at for at, it in enumerate(one)}
-        pairs = aligned([homes.get(id(self._origin(self._named(it)))) for it in two])
+        pairs = aligned([homes.get(id(self._trees.origin(self._named(it)))) for it in two])
         edits: list[Edit] = []
         for (old_from, new_from), (old_to, new_to) in zip([(-1, -1), *pairs], [*pairs, (len(one), len(two))]):
             goes, comes = one[old_from + 1 : old_to], two[new_from + 1 : new_to]
@@ -90,7 +97,7 @@ class Clauses(Statements):
                 pairs_of_gap.append((one[old_to], two[new_to]))
             for it, other in pairs_of_gap:
                 if it is not other:
-                    edits += self._fields(Place(it, other), it, other)
+                    edits += self._nodes.fields(Place(it, other), it, other)
             edits += [self._without_part(it) for it in goes[len(comes) :]]
             if len(comes) > len(goes):
                 edits.append(self._more_parts(old, name, one[:old_to], comes[len(goes) :]))
@@ -107,78 +114,78 @@ class Clauses(Statements):
     def _without_part(self, part: Term) -> Edit:
         begin = self._part_begin(part)
         last = field_of(part, "body").children[-1]
-        end = self._tail(self._statement_end(last)[0], self._indent(begin), False)
-        return Edit(self._line_start(begin), self._line_end(end)[1], b"")
+        end = self._trees.tail(self._trees.statement_end(last)[0], self._trees.indent(begin), False)
+        return Edit(self._trees.line_start(begin), self._trees.line_end(end)[1], b"")
 
     # The edit that puts handlers or cases after these.
     def _more_parts(self, old: Term, name: str, before: tuple[Term, ...], comes: tuple[Term, ...]) -> Edit:
         if name == "cases" and not before:
             raise Cannot
-        outer = self._indent(self._part_begin(before[0]) if before else span(old)[0])
+        outer = self._trees.indent(self._part_begin(before[0]) if before else span(old)[0])
         text = self._fresh_parts(str(old.head), comes, outer)
         last = field_of(before[-1] if before else old, "body").children[-1]
         while last.head in BLOCKS:
             last = self._last_inside(last)
-        return self._line_after(last, outer + text, outer)
+        return self._statements.line_after(last, outer + text, outer)
 
     # Handlers or cases made anew: the end of a statement that is made anew.
     def _fresh_parts(self, head: str, parts: tuple[Term, ...], indent: bytes) -> bytes:
         if head == "Match":
-            above = indent[: len(indent) - len(self.tokens.unit)]
-            whole = self._fresh_statement(Term("Match", (name_of("_"), Term(LIST, parts))), above)
-            return whole.split(self.newline, 1)[1][len(above + self.tokens.unit) :]
+            above = indent[: len(indent) - len(self._trees.tokens.unit)]
+            whole = self._fresh.statement(Term("Match", (name_of("_"), Term(LIST, parts))), above)
+            return whole.split(self._trees.newline, 1)[1][len(above + self._trees.tokens.unit) :]
         empty = Term(LIST)
-        whole = self._fresh_statement(Term(head, (Term(LIST, (PASS,)), Term(LIST, parts), empty, empty)), indent)
-        return whole.split(self.newline, 2)[2][len(indent) :]
+        whole = self._fresh.statement(Term(head, (Term(LIST, (PASS,)), Term(LIST, parts), empty, empty)), indent)
+        return whole.split(self._trees.newline, 2)[2][len(indent) :]
 
     # Where a `case` begins, which has no position.
     def _case(self, case: Term) -> int:
-        at = self.tokens.before(span(field_of(case, "pattern"))[0])
-        while self.tokens.tokens[at].text != "case":
+        at = self._trees.tokens.before(span(field_of(case, "pattern"))[0])
+        while self._trees.tokens.tokens[at].text != "case":
             at -= 1
-        return self.tokens.tokens[at].first
+        return self._trees.tokens.tokens[at].first
 
-    # Decorators, each on a line of its own.
-    def _decorators(self, old: Term, new: Term) -> list[Edit]:
+    def decorators(self, old: Term, new: Term) -> list[Edit]:
+        """Decorators, each on a line of its own."""
         one, two = field_of(old, "decorator_list").children, field_of(new, "decorator_list").children
-        indent = self._indent(span(old)[0])
+        indent = self._trees.indent(span(old)[0])
         homes = {id(it): at for at, it in enumerate(one)}
-        pairs = aligned([homes.get(id(self._origin(it))) for it in two])
+        pairs = aligned([homes.get(id(self._trees.origin(it))) for it in two])
         edits: list[Edit] = []
         for before, after in pairs:
-            edits += self._node(one[before], two[after])
+            edits += self._nodes.node(one[before], two[after])
         for (old_from, new_from), (old_to, new_to) in zip([(-1, -1), *pairs], [*pairs, (len(one), len(two))]):
             goes, comes = one[old_from + 1 : old_to], two[new_from + 1 : new_to]
             for it, other in zip(goes, comes):
-                edits.append(Edit(*self._around((self._at_sign(it), span(old)[0]), it), self._text(other, indent).encode()))
+                edits.append(Edit(*self._commas.around((self._trees.at_sign(it), span(old)[0]), it), self._fresh.text(other, indent).encode()))
             for it in goes[len(comes) :]:
-                begin = self._leading_comments(self._at_sign(it), self.carried)
-                edits.append(Edit(self._line_start(begin), self._decorator_end(it)[1], b""))
+                begin = self._trees.leading_comments(self._trees.at_sign(it), self._trees.carried)
+                edits.append(Edit(self._trees.line_start(begin), self._decorator_end(it)[1], b""))
             lines = [self._decorator(it, indent) for it in comes[len(goes) :]]
             if lines:
                 place = span(old)[0]
                 if old_to < len(one):
-                    place = self._at_sign(one[old_to])
-                    place = self._leading_comments(place) if old_to else place
-                edits.append(Edit(place, place, b"".join(it + self.newline + indent for it in lines)))
+                    place = self._trees.at_sign(one[old_to])
+                    place = self._trees.leading_comments(place) if old_to else place
+                edits.append(Edit(place, place, b"".join(it + self._trees.newline + indent for it in lines)))
         return edits
 
     # The text of a decorator. One from elsewhere has the comments before it, but for the first, and that in its line.
     def _decorator(self, decorator: Term, indent: bytes) -> bytes:
-        text = b"@" + self._text(decorator, indent).encode()
-        origin = self._origin(decorator)
-        home = self.homes.get(id(origin)) if origin is not None else None
-        if origin is None or home is None or self.plain or self.tokens.text_at(self.tokens.before(span(origin)[0])) != "@":
+        text = b"@" + self._fresh.text(decorator, indent).encode()
+        origin = self._trees.origin(decorator)
+        home = self._trees.homes.get(id(origin)) if origin is not None else None
+        if origin is None or home is None or self._trees.plain or self._trees.tokens.text_at(self._trees.tokens.before(span(origin)[0])) != "@":
             return text
-        sign, end = self._at_sign(origin), span(origin)[1]
-        begin = self._leading_comments(sign) if home[1] else sign
-        self.carrying.extend((it.first, id(origin)) for it in self.tokens.comments_between(begin, sign))
-        comment = self._comment_after(end)
-        text = self._indented(self._copied(begin, sign, []), self._indent(sign), indent) + text
-        return text if comment is None else text + self._copied(end, comment.last, [])
+        sign, end = self._trees.at_sign(origin), span(origin)[1]
+        begin = self._trees.leading_comments(sign) if home[1] else sign
+        self._trees.carrying.extend((it.first, id(origin)) for it in self._trees.tokens.comments_between(begin, sign))
+        comment = self._trees.comment_after(end)
+        text = self._trees.indented(self._trees.copied(begin, sign, []), self._trees.indent(sign), indent) + text
+        return text if comment is None else text + self._trees.copied(end, comment.last, [])
 
     def _decorator_end(self, decorator: Term) -> tuple[int, int]:
-        at = self.tokens.after(span(decorator)[1])
-        while self.tokens.tokens[at].kind != tokenize.NEWLINE:
+        at = self._trees.tokens.after(span(decorator)[1])
+        while self._trees.tokens.tokens[at].kind != tokenize.NEWLINE:
             at += 1
-        return self._line_end(self.tokens.tokens[at].first)
+        return self._trees.line_end(self._trees.tokens.tokens[at].first)

@@ -3,14 +3,14 @@
 from __future__ import annotations
 
 from collections.abc import Sequence
-from typing import Callable, NamedTuple, Tuple, Union
+from typing import Callable, NamedTuple, Protocol, Tuple, Union
 
 from ..source import position
 from ....terms import LIST, Term, string
-from .base import Place
 from .edits import COMPREHENSIONS, DISPLAYS, NONE, PASS, Cannot, Edit, aligned, field_of, is_same, span
 from .fresh import Fresh
 from .tokens import BRACKETS
+from .trees import Place, Trees
 
 # The text of an item, from the nodes that it is made of.
 Texts = Callable[[Tuple[Term, ...]], str]
@@ -66,13 +66,26 @@ def flat_parameters(term: Term) -> list[tuple[str, Term, Union[Term, None]]]:
     return found
 
 
-class Commas(Fresh):
+class Children(Protocol):
+    """The edits where a node comes in the place of another, and those of the fields of one."""
+
+    def child(self, place: Place, old: Term, new: Term) -> list[Edit]: ...
+
+    def fields(self, place: Place, old: Term, new: Term) -> list[Edit]: ...
+
+
+class Commas:
     """The edits of such lists, in which elements come, go and change."""
 
-    # The node with the brackets around it, inside these places.
-    def _around(self, inside: tuple[int, int], term: Term) -> tuple[int, int]:
+    nodes: Children
+
+    def __init__(self, trees: Trees, fresh: Fresh) -> None:
+        self._trees, self._fresh = trees, fresh
+
+    def around(self, inside: tuple[int, int], term: Term) -> tuple[int, int]:
+        """The node with the brackets around it, inside these places."""
         first, last = span(term)
-        tokens = self.tokens
+        tokens = self._trees.tokens
         while True:
             before, after = tokens.before(first), tokens.after(last)
             if tokens.text_at(before) != "(" or tokens.text_at(after) != ")":
@@ -82,25 +95,26 @@ class Commas(Fresh):
                 return first, last
             first, last = outer
 
-    def _item(self, inside: tuple[int, int], *parts: Term) -> Item:
+    def item(self, inside: tuple[int, int], *parts: Term) -> Item:
+        """The element that is made of these nodes."""
         known = [it for it in parts if position(it) is not None or it.head == "withitem"]
         if not known:
             raise Cannot
-        spans = [self._around(inside, it) if it.head != "withitem" else self._with_span(it) for it in known]
+        spans = [self.around(inside, it) if it.head != "withitem" else self._with_span(it) for it in known]
         first, last = spans[0][0], spans[-1][1]
         if parts[0].head == "None":
             # `**x` in a dictionary
-            first = self.tokens.tokens[self.tokens.before(first)].first
+            first = self._trees.tokens.tokens[self._trees.tokens.before(first)].first
         return Item(first, last, parts)
 
     def _with_span(self, item: Term) -> tuple[int, int]:
-        spans = [self._around(span(it), it) for it in item.children if it.head != "None"]
-        if self.tokens.text_at(self.tokens.before(spans[0][0])) == "(" and self.tokens.text_at(self.tokens.after(spans[0][1])) == ")":
+        spans = [self.around(span(it), it) for it in item.children if it.head != "None"]
+        tokens = self._trees.tokens
+        if tokens.text_at(tokens.before(spans[0][0])) == "(" and tokens.text_at(tokens.after(spans[0][1])) == ")":
             raise Cannot
         return spans[0][0], spans[-1][1]
 
-    # The edits for a list with commas. `inside` are the places between its brackets.
-    def _items(
+    def items(
         self,
         place: Place,
         inside: tuple[int, int],
@@ -109,11 +123,12 @@ class Commas(Fresh):
         text: Texts | None = None,
         trailing: bool = True,
     ) -> list[Edit]:
+        """The edits for a list with commas. `inside` are the places between its brackets."""
         if any(one.last > two.first for one, two in zip(old, old[1:])):
             raise Cannot
         text = text or self._alone(inside)
         keys = {id(key_of(it.parts)): at for at, it in enumerate(old)}
-        kept = [keys.get(id(self._origin(key_of(parts)))) for parts in new]
+        kept = [keys.get(id(self._trees.origin(key_of(parts)))) for parts in new]
         for other, at in enumerate(kept):
             if at is not None and [it.head == "None" for it in new[other]] != [it.head == "None" for it in old[at].parts]:
                 kept[other] = None
@@ -139,12 +154,12 @@ class Commas(Fresh):
         for one, two in pairs:
             for before, after in zip(old[one].parts, new[two]):
                 if not is_same(before, after):
-                    edits += self._child(Place(place.old, place.new), before, after)
+                    edits += self.nodes.child(Place(place.old, place.new), before, after)
         return edits
 
     # The text of an item of one node.
     def _alone(self, inside: tuple[int, int]) -> Texts:
-        return lambda parts: self._text(parts[0], self._frame(inside[0]), self.tokens.in_brackets(inside[0]))
+        return lambda parts: self._fresh.text(parts[0], self._trees.frame(inside[0]), self._trees.tokens.in_brackets(inside[0]))
 
     # The edits that take the items from one to another away.
     def _without(self, inside: tuple[int, int], old: Sequence[Item], first: int, last: int, more: bool, trailing: bool) -> list[Edit]:
@@ -152,43 +167,43 @@ class Commas(Fresh):
             return [Edit(old[first].first, old[last + 1].first, b"")]
         if first > 0:
             begin = old[first - 1].last
-            if trailing and self.tokens.comments_between(begin, old[first].first):
+            if trailing and self._trees.tokens.comments_between(begin, old[first].first):
                 begin = old[first].first
-                end = self.tokens.after(old[last].last)
-                stop = self.tokens.tokens[end].last if self.tokens.text_at(end) == "," else old[last].last
+                end = self._trees.tokens.after(old[last].last)
+                stop = self._trees.tokens.tokens[end].last if self._trees.tokens.text_at(end) == "," else old[last].last
                 return [Edit(begin, stop, b"")]
             return [Edit(begin, old[last].last, b"")]
-        end = self.tokens.after(old[last].last)
-        comma = self.tokens.text_at(end) == "," and self.tokens.tokens[end].last <= inside[1]
-        return [Edit(old[first].first, self.tokens.tokens[end].last if comma else old[last].last, b"")]
+        end = self._trees.tokens.after(old[last].last)
+        comma = self._trees.tokens.text_at(end) == "," and self._trees.tokens.tokens[end].last <= inside[1]
+        return [Edit(old[first].first, self._trees.tokens.tokens[end].last if comma else old[last].last, b"")]
 
-    # The edits that make a list, a tuple or a set another of these, with its elements, or a comprehension another.
-    def _display(self, old: Term, new: Term) -> list[Edit]:
+    def display(self, old: Term, new: Term) -> list[Edit]:
+        """The edits that make a list, a tuple or a set another of these, with its elements, or a comprehension another."""
         if old.head in COMPREHENSIONS:
             return self._comprehension(old, new)
         before, after = old.children[0].children, new.children[0].children
         first, last = span(old)
-        inside = self._inside_of(old)
+        inside = self._trees.inside_of(old)
         if (new.head == "Set" and not after) or (new.head == "Tuple" and len(after) == 1 != len(before)):
             raise Cannot
-        elements = [self._item(inside, it) for it in before]
+        elements = [self.item(inside, it) for it in before]
         opens, closes = DISPLAYS[str(new.head)]
-        if new.head == "Tuple" and len(after) == 1 and self.tokens.text_at(self.tokens.after(elements[0].last)) != ",":
+        if new.head == "Tuple" and len(after) == 1 and self._trees.tokens.text_at(self._trees.tokens.after(elements[0].last)) != ",":
             comma = [Edit(elements[0].last, elements[0].last, b",")]
         else:
             comma = []
-        items = self._items(Place(old, new), inside, elements, [(it,) for it in after])
+        items = self.items(Place(old, new), inside, elements, [(it,) for it in after])
         return [Edit(first, inside[0], opens), *items, *comma, Edit(inside[1], last, closes)]
 
     # The same of comprehensions.
     def _comprehension(self, old: Term, new: Term) -> list[Edit]:
         first, last = span(old)
         opens, closes = COMPREHENSIONS[str(new.head)]
-        edits = self._fields(Place(old, new), old, Term(old.head, new.children))
+        edits = self.nodes.fields(Place(old, new), old, Term(old.head, new.children))
         return [Edit(first, first + 1, opens), *edits, Edit(last - 1, last, closes)]
 
-    # The arguments of a call, where they are others than before in number or kind.
-    def _call(self, place: Place, old: Term, new: Term) -> list[Edit] | None:
+    def call(self, place: Place, old: Term, new: Term) -> list[Edit] | None:
+        """The arguments of a call, where they are others than before in number or kind."""
         function, arguments, keywords = old.children
         if len(new.children) != 3 or new.children[1].head != LIST or new.children[2].head != LIST:
             raise Cannot
@@ -196,59 +211,61 @@ class Commas(Fresh):
         if all(one == two for one, two in lengths):
             return None
         last = span(old)[1]
-        opens = self.tokens.after(self._around(span(old), function)[1])
-        inside = (self.tokens.tokens[opens].last, last - 1)
+        opens = self._trees.tokens.after(self.around(span(old), function)[1])
+        inside = (self._trees.tokens.tokens[opens].last, last - 1)
         before = [*arguments.children, *keywords.children]
         if any(it.head == "GeneratorExp" and span(it)[1] == last for it in before):
             raise Cannot
-        edits = self._child(place.at(0), function, new.children[0]) if function is not new.children[0] else []
+        edits = self.nodes.child(place.at(0), function, new.children[0]) if function is not new.children[0] else []
         after = [(it,) for it in (*new.children[1].children, *new.children[2].children)]
-        return edits + self._items(place, inside, [self._item(inside, it) for it in before], after)
+        return edits + self.items(place, inside, [self.item(inside, it) for it in before], after)
 
-    def _bases(self, place: Place, old: Term, new: Term) -> list[Edit]:
+    def bases(self, place: Place, old: Term, new: Term) -> list[Edit]:
+        """The bases and the keywords of a class."""
         before = [*field_of(old, "bases").children, *field_of(old, "keywords").children]
         after = [*field_of(new, "bases").children, *field_of(new, "keywords").children]
         if len(before) == len(after) and all(one is two for one, two in zip(before, after)):
             return []
         if field_of(old, "type_params").children:
             raise Cannot
-        at = self.tokens.after(span(old)[0]) + 2
-        if self.tokens.text_at(at) != "(":
-            name = self.tokens.tokens[at - 1]
-            texts = [self._text(it, self._frame(name.first), True).encode() for it in after]
+        at = self._trees.tokens.after(span(old)[0]) + 2
+        if self._trees.tokens.text_at(at) != "(":
+            name = self._trees.tokens.tokens[at - 1]
+            texts = [self._fresh.text(it, self._trees.frame(name.first), True).encode() for it in after]
             return [Edit(name.last, name.last, b"(" + b", ".join(texts) + b")")]
         depth, end = 1, at
         while depth:
             end += 1
-            depth += BRACKETS.get(self.tokens.text_at(end), 0)
-        inside = (self.tokens.tokens[at].last, self.tokens.tokens[end].first)
-        elements = [self._item(inside, it) for it in before]
-        return self._items(place, inside, elements, [(it,) for it in after])
+            depth += BRACKETS.get(self._trees.tokens.text_at(end), 0)
+        inside = (self._trees.tokens.tokens[at].last, self._trees.tokens.tokens[end].first)
+        elements = [self.item(inside, it) for it in before]
+        return self.items(place, inside, elements, [(it,) for it in after])
 
-    def _dict(self, place: Place, old: Term, new: Term) -> list[Edit]:
+    def dictionary(self, place: Place, old: Term, new: Term) -> list[Edit]:
+        """The entries of a dictionary, where they are more or fewer than before."""
         first, last = span(old)
         inside = (first + 1, last - 1)
         keys, values = (it.children for it in old.children)
         if len(new.children[0].children) != len(new.children[1].children):
             raise Cannot
-        before = [self._item(inside, *pair) for pair in zip(keys, values)]
+        before = [self.item(inside, *pair) for pair in zip(keys, values)]
         after = list(zip(new.children[0].children, new.children[1].children))
 
         def text(parts: tuple[Term, ...]) -> str:
-            return self._between(Term("Dict", (Term(LIST, parts[:1]), Term(LIST, parts[1:]))), self._frame(first), "{", "}")
+            return self._between(Term("Dict", (Term(LIST, parts[:1]), Term(LIST, parts[1:]))), self._trees.frame(first), "{", "}")
 
-        return self._items(place, inside, before, after, text)
+        return self.items(place, inside, before, after, text)
 
     # The text of a node that is made anew, of which only what is between two brackets is wanted.
     def _between(self, term: Term, indent: bytes, opens: str, closes: str) -> str:
-        text = self._fresh(term, indent)
+        text = self._fresh.made(term, indent)
         return text[text.index(opens) + 1 : text.rindex(closes)]
 
-    # The parameters of a function.
-    def _parameters(self, place: Place, old: Term, one: Term, two: Term) -> list[Edit]:
+    def parameters(self, place: Place, old: Term, one: Term, two: Term) -> list[Edit]:
+        """The parameters of a function."""
         if same_shape(one, two):
-            return self._fields(place, one, two)
-        tokens = self.tokens
+            return self.nodes.fields(place, one, two)
+        tokens = self._trees.tokens
         at = tokens.after(span(old)[0])
         if old.head == "Lambda":
             depth, end = 0, at + 1
@@ -266,14 +283,14 @@ class Commas(Fresh):
                 end += 1
                 depth += BRACKETS.get(tokens.text_at(end), 0)
             inside = (tokens.tokens[at].last, tokens.tokens[end].first)
-        indent = self._frame(inside[0])
+        indent = self._trees.frame(inside[0])
         before, after = flat_parameters(one), flat_parameters(two)
         alone = any(sign in ("/", "bare") for sign, _, _ in [*before, *after])
         if old.head == "Lambda" or alone:
             return [Edit(*inside, self._parameter_list(old.head == "Lambda", two, indent))]
         elements = []
         for sign, name, default in before:
-            item = self._item(inside, *([name] if default is None else [name, default]))
+            item = self.item(inside, *([name] if default is None else [name, default]))
             if sign:
                 item = item._replace(first=tokens.tokens[tokens.before(item.first)].first)
             elements.append(item)
@@ -284,20 +301,20 @@ class Commas(Fresh):
 
         def text(parts: tuple[Term, ...]) -> str:
             equals = " = " if parts[0].children[1].head != "None" else "="
-            default = equals + self._text(parts[1], indent, True) if len(parts) > 1 else ""
-            return marks.get(id(parts[0]), "") + self._text(parts[0], indent, True) + default
+            default = equals + self._fresh.text(parts[1], indent, True) if len(parts) > 1 else ""
+            return marks.get(id(parts[0]), "") + self._fresh.text(parts[0], indent, True) + default
 
         # a parameter that changes its kind is no longer itself
         for parts, (sign, name, _) in zip(news, after):
-            origin = self._origin(name)
+            origin = self._trees.origin(name)
             if origin is not None and marks.get(id(origin)) != sign:
                 return [Edit(*inside, self._parameter_list(False, two, indent))]
-        return self._items(place, inside, elements, news, text)
+        return self.items(place, inside, elements, news, text)
 
     def _parameter_list(self, is_lambda: bool, new: Term, indent: bytes) -> bytes:
         if is_lambda:
-            text = self._fresh(Term("Lambda", (new, Term("Constant", (Term("Ellipsis"), NONE)))), indent)
+            text = self._fresh.made(Term("Lambda", (new, Term("Constant", (Term("Ellipsis"), NONE)))), indent)
             return text[len("lambda") : text.rindex(":")].encode()
         empty = Term(LIST)
-        made = self._fresh_statement(Term("FunctionDef", (string("f"), new, Term(LIST, (PASS,)), empty, NONE, NONE, empty)), indent)
+        made = self._fresh.statement(Term("FunctionDef", (string("f"), new, Term(LIST, (PASS,)), empty, NONE, NONE, empty)), indent)
         return made[made.index(b"(") + 1 : made.rindex(b"):")]

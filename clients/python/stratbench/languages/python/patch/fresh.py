@@ -4,51 +4,77 @@ from __future__ import annotations
 
 import ast
 import re
-from abc import abstractmethod
+from collections.abc import Sequence
+from typing import Protocol
 
 from ..source import CONSTRUCTORS, parse, unparse
 from ....terms import LIST, NoTerm, Term, string
-from .base import Base
 from .edits import BLOCKS, COMPREHENSIONS, DISPLAYS, LOAD, STATEMENTS, Cannot, Edit, parts_of, span
 from .markers import STRINGS, Piece, closed, filled, lean, marker_of, unparsed
+from .trees import Trees
 
 
-class Fresh(Base):
+class Inside(Protocol):
+    """The edits within an old node that stays with other parts."""
+
+    def inside(self, old: Term, new: Term) -> list[Edit]: ...
+
+
+class Displays(Protocol):
+    """The edits that make a literal, or a comprehension, another."""
+
+    def display(self, old: Term, new: Term) -> list[Edit]: ...
+
+
+class Blocks(Protocol):
+    """The text of statements, without the indentation of its first line."""
+
+    def rendered(self, new: Sequence[Term], indent: bytes) -> bytes: ...
+
+
+class Fresh:
     """How nodes are written that weren't there before."""
 
-    # The text of a node, its own where it is an old one, in a statement of an indentation. Between brackets it may go over lines.
-    def _text(self, term: Term, indent: bytes, inside: bool = False) -> str:
+    nodes: Inside
+    displays: Displays
+    blocks: Blocks
+
+    def __init__(self, trees: Trees) -> None:
+        self._trees = trees
+
+    def text(self, term: Term, indent: bytes, inside: bool = False) -> str:
+        """The text of a node, its own where it is an old one, in a statement of an indentation. Between brackets it may go over lines."""
         known = self._piece_text(term, indent)
-        return self._fresh(term, indent, inside=inside) if known is None else closed(known, str(term.head), inside)
+        return self.made(term, indent, inside=inside) if known is None else closed(known, str(term.head), inside)
 
     def _piece_text(self, term: Term, indent: bytes) -> str | None:
-        origin = None if self.plain else self._origin(term)
+        origin = None if self._trees.plain else self._trees.origin(term)
         if origin is None:
             return None
         try:
             first, last = span(origin)
-            own = self._copied(first, last, [] if origin is term else self._inside(origin, term))
+            own = self._trees.copied(first, last, [] if origin is term else self.nodes.inside(origin, term))
         except Cannot:
             return None
-        text = self._indented(own, self._frame(first), indent, True).decode()
-        if term.head == "Tuple" and not self._is_bracketed_tuple(origin) and not any(it.head == "Slice" for it in term.children[0].children):
+        text = self._trees.indented(own, self._trees.frame(first), indent, True).decode()
+        if term.head == "Tuple" and not self._trees.is_bracketed_tuple(origin) and not any(it.head == "Slice" for it in term.children[0].children):
             return f"({text})"
         return text
 
-    # The text of a node that is made anew, with the texts of old ones in it.
-    def _fresh(self, term: Term, indent: bytes, old: Term | None = None, inside: bool = False) -> str:
+    def made(self, term: Term, indent: bytes, old: Term | None = None, inside: bool = False) -> str:
+        """The text of a node that is made anew, with the texts of old ones in it."""
         if term.head in STATEMENTS:
-            return self._fresh_statement(term, b"").decode()
+            return self.statement(term, b"").decode()
         if old is not None:
-            known = self._piece_text(term, indent) if self._origin(term) is not old else None
+            known = self._piece_text(term, indent) if self._trees.origin(term) is not old else None
             if known is not None:
                 return closed(known, str(term.head), inside)
-        display = None if self.plain else self._display_text(term, indent)
+        display = None if self._trees.plain else self._display_text(term, indent)
         if display is not None:
             return display
         pieces: list[Piece] = []
         made = self._with_pieces(term, pieces, indent, root=True)
-        text = filled(self._fitting(lean(unparsed(made), made)), pieces, inside)
+        text = filled(self.fitting(lean(unparsed(made), made)), pieces, inside)
         if term.head in ("JoinedStr", "Constant") and old is not None:
             return self._requoted(text, old)
         return text
@@ -58,30 +84,27 @@ class Fresh(Base):
         heads = next((it for it in (DISPLAYS, COMPREHENSIONS) if term.head in it), None)
         if heads is None:
             return None
-        parts = (self._origin(it) for it in parts_of(term))
-        old = next((self.owners.get(id(it)) for it in parts if it is not None), None)
-        if old is None or old.head not in heads or self.former.is_present(old):
+        parts = (self._trees.origin(it) for it in parts_of(term))
+        old = next((self._trees.owners.get(id(it)) for it in parts if it is not None), None)
+        if old is None or old.head not in heads or self._trees.former.is_present(old):
             return None
         first, last = span(old)
         try:
-            text = self._copied(first, last, self._display(old, term))
+            text = self._trees.copied(first, last, self.displays.display(old, term))
         except Cannot:
             return None
-        return self._indented(text, self._frame(first), indent, True).decode()
+        return self._trees.indented(text, self._trees.frame(first), indent, True).decode()
 
-    @abstractmethod
-    def _display(self, old: Term, new: Term) -> list[Edit]: ...
-
-    # A new text with escapes in its strings for what the encoding of the file doesn't have.
-    def _fitting(self, text: str) -> str:
-        encoding = self.source.encoding
+    def fitting(self, text: str) -> str:
+        """A new text with escapes in its strings for what the encoding of the file doesn't have."""
+        encoding = self._trees.source.encoding
         if encoding.startswith("utf-8"):
             return text
         return STRINGS.sub(lambda it: it.group().encode(encoding, "backslashreplace").decode(encoding), text)
 
     # A string in the quotes of the first one that was in its place, and as raw as that.
     def _requoted(self, text: str, old: Term) -> str:
-        tokens = self.tokens.between(*span(old))
+        tokens = self._trees.tokens.between(*span(old))
         first = next((it.text for it in tokens if it.text[-1:] in ("'", '"')), "")
         found = re.match(r"""([A-Za-z]*)('+|"+)""", first)
         mine = re.fullmatch(r"""([fb]?)('|")(.*)\2""", text, re.DOTALL)
@@ -100,7 +123,7 @@ class Fresh(Base):
     def _with_pieces(self, term: Term, pieces: list[Piece], indent: bytes, root: bool = False) -> Term:
         if not root and term.head in CONSTRUCTORS:
             text = self._piece_text(term, indent)
-            if text is None and not self.plain:
+            if text is None and not self._trees.plain:
                 text = self._display_text(term, indent)
             if text is not None:
                 shown, marker = marker_of(term, len(pieces))
@@ -110,10 +133,10 @@ class Fresh(Base):
             return term
         return Term(term.head, tuple([self._with_pieces(it, pieces, indent) for it in term.children]))
 
-    # A statement made anew, without the indentation of its first line.
-    def _fresh_statement(self, term: Term, indent: bytes) -> bytes:
-        if self.plain:
-            return self._indented(self._fitting(unparse(term)).strip("\n").encode(), b"", indent)
+    def statement(self, term: Term, indent: bytes) -> bytes:
+        """A statement made anew, without the indentation of its first line."""
+        if self._trees.plain:
+            return self._trees.indented(self.fitting(unparse(term)).strip("\n").encode(), b"", indent)
         pieces: list[Piece] = []
         blocks: list[Term] = []
         stub = self._stub(term, pieces, blocks, indent)
@@ -121,19 +144,19 @@ class Fresh(Base):
             text = unparse(Term("Module", (Term(LIST, (stub,)), Term(LIST))))
         else:
             text = lean(unparsed(stub), stub)
-        text = self._fitting(text).strip("\n")
+        text = self.fitting(text).strip("\n")
         if not blocks:
-            return filled(self._indented(text.encode(), b"", indent).decode(), pieces).encode()
+            return filled(self._trees.indented(text.encode(), b"", indent).decode(), pieces).encode()
         lines: list[bytes] = []
         for line in text.split("\n"):
             found = re.fullmatch(r"( *)_block_(\d+)_", line)
             if found:
-                level = indent + self.tokens.unit * (len(found.group(1)) // 4)
-                lines.append(level + self._rendered(blocks[int(found.group(2))].children, level))
+                level = indent + self._trees.tokens.unit * (len(found.group(1)) // 4)
+                lines.append(level + self.blocks.rendered(blocks[int(found.group(2))].children, level))
             else:
-                level = indent + self.tokens.unit * ((len(line) - len(line.lstrip(" "))) // 4)
+                level = indent + self._trees.tokens.unit * ((len(line) - len(line.lstrip(" "))) // 4)
                 lines.append(level + filled(line.lstrip(" "), pieces).encode())
-        return self.newline.join(lines)[len(indent) :]
+        return self._trees.newline.join(lines)[len(indent) :]
 
     # A statement with markers in the places of its blocks and of the nodes whose text is known.
     def _stub(self, term: Term, pieces: list[Piece], blocks: list[Term], indent: bytes) -> Term:
@@ -144,23 +167,23 @@ class Fresh(Base):
         for field, child in zip(CONSTRUCTORS[head].fields, term.children):
             if head in BLOCKS and field.name in BLOCKS[head] and child.head == LIST and child.children:
                 inner = child.children[0]
-                if field.name == "orelse" and head == "If" and len(child.children) == 1 and inner.head == "If" and self._is_elif(inner):
+                if field.name == "orelse" and head == "If" and len(child.children) == 1 and inner.head == "If" and self.is_elif(inner):
                     children.append(Term(LIST, (self._stub(inner, pieces, blocks, indent),)))
                     continue
                 name = Term("Name", (string(f"_block_{len(blocks)}_"), LOAD))
                 blocks.append(child)
                 children.append(Term(LIST, (Term("Expr", (name,)),)))
             elif head in BLOCKS and field.name in ("handlers", "cases"):
-                deeper = indent + self.tokens.unit if field.name == "cases" else indent
+                deeper = indent + self._trees.tokens.unit if field.name == "cases" else indent
                 children.append(Term(LIST, tuple(self._stub(it, pieces, blocks, deeper) for it in child.children)))
             else:
                 children.append(self._with_pieces(child, pieces, indent))
         return Term(head, tuple(children))
 
-    # Whether an `If` in the `else` of another is written `elif`: it was, or is new.
-    def _is_elif(self, term: Term) -> bool:
-        origin = self._origin(term)
-        return origin is None or self.text[span(origin)[0] :].startswith(b"elif")
+    def is_elif(self, term: Term) -> bool:
+        """Whether an `If` in the `else` of another is written `elif`: it was, or is new."""
+        origin = self._trees.origin(term)
+        return origin is None or self._trees.text[span(origin)[0] :].startswith(b"elif")
 
 
 # Texts with a prefix and quotes, which may spell a string, from that with a prefix of its own: like the old one first.

@@ -7,14 +7,14 @@ node that it should.
 from __future__ import annotations
 
 import re
-from abc import abstractmethod
-from collections.abc import Iterator, Sequence
+from collections.abc import Callable, Iterator, Sequence
 from typing import NamedTuple
 
 from ..source import Source, parse, to_term, unparse
 from ....terms import LIST, NoTerm, Term, put, subterms
-from .commas import Commas
 from .edits import Cannot, Edit, apply_edits, same_tree, span
+from .fresh import Fresh
+from .trees import Trees
 
 _LITERAL = re.compile(rb"""([A-Za-z]*)('''|\"""|'|")""")
 _BETWEEN = re.compile(rb"(?:[ \t\f\r\n]|\\\r?\n|#[^\r\n]*)*")
@@ -155,21 +155,22 @@ class Reader:
         return literal.last + len(literal.quote)
 
 
-class Joined(Commas):
-    """The edits of an f-string by those of its fields."""
+class Joined:
+    """The edits of an f-string by those of its fields. `expression` makes those of an expression in a source of its own, which begins at a
+    place of the whole."""
 
-    # What the class above makes of an expression in a source of its own.
-    @abstractmethod
-    def _expression(self, source: Source, new: Term, offset: int) -> list[Edit]: ...
+    def __init__(self, trees: Trees, fresh: Fresh, expression: Callable[[Source, Term, int], list[Edit]]) -> None:
+        self._trees, self._fresh, self._expression = trees, fresh, expression
 
-    # The edits that make an f-string another.
-    def _joined(self, old: Term, new: Term) -> list[Edit]:
+
+    def edits(self, old: Term, new: Term) -> list[Edit]:
+        """The edits that make an f-string another."""
         first, last = span(old)
-        literals = list(Reader(self.text, last).literals(first))
+        literals = list(Reader(self._trees.text, last).literals(first))
         for made_anew in (False, True):
             try:
                 edits = self._strings(literals, old, new, made_anew)
-                text = apply_edits(self.text, first, last, edits).decode()
+                text = apply_edits(self._trees.text, first, last, edits).decode()
                 if same_tree(to_term(parse(f"({text})")).children[0].children[0].children[0], new):
                     return edits
             except (Cannot, NoTerm, SyntaxError):
@@ -222,7 +223,7 @@ class Joined(Commas):
         for (literal, first, last), text in zip(stretches, texts):
             if at <= begin and len(old) - ends <= at + len(text):
                 own = text[: begin - at] + new[begin : len(new) - ends] + text[len(old) - ends - at :]
-                if self.text[first:last] == text.encode():
+                if self._trees.text[first:last] == text.encode():
                     first, own = first + len(text[: begin - at].encode()), new[begin : len(new) - ends]
                     last -= len(text[len(old) - ends - at :].encode())
                 return Edit(first, last, self._spelt(literal, own))
@@ -233,7 +234,7 @@ class Joined(Commas):
     def _said(self, literal: Literal, first: int, last: int) -> str:
         prefix = ("f" if literal.is_f else "") + ("r" if literal.is_raw else "")
         quote = literal.quote.decode()
-        found = to_term(parse(f"{prefix}{quote}{self.text[first:last].decode()}{quote}")).children[0].children[0].children[0]
+        found = to_term(parse(f"{prefix}{quote}{self._trees.text[first:last].decode()}{quote}")).children[0].children[0].children[0]
         texts, values = _parts(found) if found.head == "JoinedStr" else ([found.children[0].text], [])
         if values:
             raise Cannot
@@ -246,7 +247,7 @@ class Joined(Commas):
             text = text.replace("\\n", "\n") if len(literal.quote) == 3 else text
             text = text.replace(literal.quote.decode(), "\\" + literal.quote.decode())
         text = text.replace("{", "{{").replace("}", "}}") if literal.is_f else text
-        return self._fitting(f"'{text}'")[1:-1].encode()
+        return self._fresh.fitting(f"'{text}'")[1:-1].encode()
 
     # The edits of a field.
     def _formatted(self, field: Field, old: Term, new: Term, made_anew: bool) -> list[Edit]:
@@ -254,11 +255,11 @@ class Joined(Commas):
         new_value, new_conversion, new_form = new.children
         first, last = field.value
         if conversion != new_conversion or (form.head == "None") != (new_form.head == "None") or (field.shown and not same_tree(value, new_value)):
-            shown = self.text[first : field.shown].replace(b"{", b"{{").replace(b"}", b"}}") if field.shown else b""
+            shown = self._trees.text[first : field.shown].replace(b"{", b"{{").replace(b"}", b"}}") if field.shown else b""
             return [Edit(field.first, field.last, shown + _body(Term("JoinedStr", (Term(LIST, (new,)),)), field.quote))]
         edits: list[Edit] = []
         if not same_tree(value, new_value):
-            text = self.text[first:last]
+            text = self._trees.text[first:last]
             source = Source(b"(" + text + b")")
             [statement] = source.term.children[0].children
             if not same_tree(statement.children[0], value):

@@ -3,56 +3,61 @@
 from __future__ import annotations
 
 import tokenize
-from abc import abstractmethod
 from keyword import iskeyword
+from typing import Protocol
 
 from ..source import CONSTRUCTORS, position
 from ....terms import LIST, Term, string
-from .base import Place
-from .commas import same_shape
+from .commas import Commas, same_shape
 from .edits import (
     BLOCKS, COMMAS, COMPREHENSIONS, DEFINITIONS, DISPLAYS, EXPRESSIONS, LOAD, NONE, OPEN, OPERATIONS, OPERATORS, PATTERNS, Cannot, Edit, field_of,
     is_same, operands, span,
 )  # fmt: skip
+from .fresh import Fresh
 from .fstrings import Joined
 from .markers import brackets, hollow, marker_of, windowed
+from .trees import Place, Trees
 
 
-class Nodes(Joined):
+class Parts(Protocol):
+    """The edits of the parts of statements with blocks."""
+
+    def clause(self, old: Term, new: Term, name: str) -> list[Edit]: ...
+
+    def parts(self, old: Term, new: Term, name: str) -> list[Edit]: ...
+
+    def decorators(self, old: Term, new: Term) -> list[Edit]: ...
+
+
+class Nodes:
     """The edits of a node by those of its fields."""
 
-    # What the class above says of blocks.
+    clauses: Parts
 
-    @abstractmethod
-    def _clause(self, old: Term, new: Term, name: str) -> list[Edit]: ...
+    def __init__(self, trees: Trees, fresh: Fresh, commas: Commas, joined: Joined) -> None:
+        self._trees, self._fresh, self._commas, self._joined = trees, fresh, commas, joined
 
-    @abstractmethod
-    def _parts(self, old: Term, new: Term, name: str) -> list[Edit]: ...
-
-    @abstractmethod
-    def _decorators(self, old: Term, new: Term) -> list[Edit]: ...
-
-    # The edits that make the old node the new one, which stands in its place.
-    def _node(self, old: Term, new: Term, inside: bool = False) -> list[Edit]:
+    def node(self, old: Term, new: Term, inside: bool = False) -> list[Edit]:
+        """The edits that make the old node the new one, which stands in its place."""
         if old is new:
             return []
         first, last = span(old)
-        if not self.plain and not self._moved(old, new):
+        if not self._trees.plain and not self._trees.is_moved(old, new):
             found = None
             if old.head == new.head:
-                found = self._tried(lambda: self._inside(old, new))
+                found = self._trees.tried(lambda: self.inside(old, new))
             elif any(old.head in it and new.head in it for it in (DISPLAYS, COMPREHENSIONS)):
-                found = self._tried(lambda: self._display(old, new))
+                found = self._trees.tried(lambda: self._commas.display(old, new))
             if found is not None:
                 return found
-        inside = inside or self.tokens.in_brackets(first)
-        return [Edit(first, last, self._fresh(new, self._frame(first), old, inside).encode())]
+        inside = inside or self._trees.tokens.in_brackets(first)
+        return [Edit(first, last, self._fresh.made(new, self._trees.frame(first), old, inside).encode())]
 
-    # The edits within a node whose constructor stays.
-    def _inside(self, old: Term, new: Term) -> list[Edit]:
+    def inside(self, old: Term, new: Term) -> list[Edit]:
+        """The edits within a node whose constructor stays."""
         if old.head == "JoinedStr":
-            return self._joined(old, new)
-        edits = self._fields(Place(old, new), old, new)
+            return self._joined.edits(old, new)
+        edits = self.fields(Place(old, new), old, new)
         at = OPERATIONS.get(str(old.head))
         if at is not None and old.children[at] is not new.children[at]:
             edits = self._rebracketed(old, new, edits)
@@ -66,20 +71,21 @@ class Nodes(Joined):
                 edits = [*edits, Edit(found[0], found[0], b"("), Edit(found[1], found[1], b")")]
         return edits
 
-    def _fields(self, place: Place, old: Term, new: Term) -> list[Edit]:
+    def fields(self, place: Place, old: Term, new: Term) -> list[Edit]:
+        """The edits of the fields of a node whose constructor stays."""
         head = str(old.head)
         fields = CONSTRUCTORS[head].fields
         if old.head != new.head or len(old.children) != len(fields) or len(new.children) != len(fields):
             raise Cannot
         edits: list[Edit] = []
         if head == "Call":
-            joint = self._call(place, old, new)
+            joint = self._commas.call(place, old, new)
             if joint is not None:
                 return joint
         if head == "ClassDef":
-            edits += self._bases(place, old, new)
+            edits += self._commas.bases(place, old, new)
         if head == "Dict" and len(old.children[0].children) != len(new.children[0].children):
-            return self._dict(place, old, new)
+            return self._commas.dictionary(place, old, new)
         if head == "arguments" and not same_shape(old, new):
             raise Cannot
         for at, field in enumerate(fields):
@@ -92,13 +98,13 @@ class Nodes(Joined):
     def _field(self, place: Place, old: Term, new: Term, name: str, one: Term, two: Term) -> list[Edit]:
         head = str(old.head)
         if head in BLOCKS and name in ("body", "orelse", "finalbody"):
-            return self._clause(old, new, name)
+            return self.clauses.clause(old, new, name)
         if name == "handlers" or name == "cases":
-            return self._parts(old, new, name)
+            return self.clauses.parts(old, new, name)
         if name == "decorator_list":
-            return self._decorators(old, new)
+            return self.clauses.decorators(old, new)
         if (head, name) in (("FunctionDef", "args"), ("AsyncFunctionDef", "args"), ("Lambda", "args")):
-            return self._parameters(place, old, one, two)
+            return self._commas.parameters(place, old, one, two)
         if name == "returns" and head in DEFINITIONS:
             return self._returns(place, old, one, two)
         word = self._word(old, new, name, one, two)
@@ -109,31 +115,31 @@ class Nodes(Joined):
                 edits: list[Edit] = []
                 for at, (it, other) in enumerate(zip(one.children, two.children)):
                     if not is_same(it, other):
-                        edits += self._child(place.at(at), it, other)
+                        edits += self.child(place.at(at), it, other)
                 return edits
             least = COMMAS.get((head, name))
             if least is None or len(two.children) < least or not one.children:
                 if (head, name) != ("List", "elts"):
                     raise Cannot
-            inside = self._inside_of(old) if head in DISPLAYS else span(old)
-            elements = [self._item(inside, it) for it in one.children]
-            return self._items(place, inside, elements, [(it,) for it in two.children], trailing=head != "Delete")
-        return self._child(place, one, two)
+            inside = self._trees.inside_of(old) if head in DISPLAYS else span(old)
+            elements = [self._commas.item(inside, it) for it in one.children]
+            return self._commas.items(place, inside, elements, [(it,) for it in two.children], trailing=head != "Delete")
+        return self.child(place, one, two)
 
-    # The edits for a child that isn't a list.
-    def _child(self, place: Place, old: Term, new: Term) -> list[Edit]:
+    def child(self, place: Place, old: Term, new: Term) -> list[Edit]:
+        """The edits for a child that isn't a list."""
         if position(old) is None:
             if old.head == new.head and old.head in ("arguments", "comprehension", "withitem"):
-                return self._fields(place, old, new)
+                return self.fields(place, old, new)
             raise Cannot
         if new.head not in CONSTRUCTORS or new.head == "None":
             raise Cannot
         if new.head not in EXPRESSIONS and new.head not in PATTERNS:
-            return self._node(old, new)
+            return self.node(old, new)
         first, last = span(old)
         of_call = self._has_calls_brackets(place, old)
         needed = new.head != "GeneratorExp" if of_call else self._needs_brackets(place, new, old)
-        edits = self._node(old, new, needed)
+        edits = self.node(old, new, needed)
         is_whole = len(edits) == 1 and (edits[0].first, edits[0].last) == (first, last)
         if new.head == "GeneratorExp" and old.head != new.head and self._is_alone(place, old):
             return _without_brackets(edits)
@@ -149,10 +155,10 @@ class Nodes(Joined):
 
     # Whether a node has brackets around it that are for it alone: not those of a call.
     def _is_grouped(self, first: int, last: int) -> bool:
-        before, after = self.tokens.before(first), self.tokens.after(last)
-        if self.tokens.text_at(before) != "(" or self.tokens.text_at(after) != ")":
+        before, after = self._trees.tokens.before(first), self._trees.tokens.after(last)
+        if self._trees.tokens.text_at(before) != "(" or self._trees.tokens.text_at(after) != ")":
             return False
-        above = self.tokens.text_at(before - 1)
+        above = self._trees.tokens.text_at(before - 1)
         return iskeyword(above) or not (above.isidentifier() or above in (")", "]", "}") or above[-1:] in ("'", '"'))
 
     # Whether a node is all that is between the brackets of a call, before and after.
@@ -160,9 +166,9 @@ class Nodes(Joined):
         if place.new.head != "Call" or place.path[:1] != (1,) or len(place.new.children[1].children) + len(place.new.children[2].children) != 1:
             return False
         first, last = span(old)
-        before, after = self.tokens.before(first), self.tokens.after(last)
-        opens = self.tokens.after(self._around(span(place.old), place.old.children[0])[1])
-        return before == opens and self.tokens.text_at(after) == ")"
+        before, after = self._trees.tokens.before(first), self._trees.tokens.after(last)
+        opens = self._trees.tokens.after(self._commas.around(span(place.old), place.old.children[0])[1])
+        return before == opens and self._trees.tokens.text_at(after) == ")"
 
     # Whether the brackets of a generator are those of the call of which it is the only argument.
     def _has_calls_brackets(self, place: Place, old: Term) -> bool:
@@ -173,8 +179,8 @@ class Nodes(Joined):
         if not place.path or (new.head not in EXPRESSIONS and new.head not in PATTERNS):
             return False
         first, last = span(old)
-        before, after, there = self.tokens.before(first), self.tokens.after(last), 0
-        while self.tokens.text_at(before) == "(" and self.tokens.text_at(after) == ")":
+        before, after, there = self._trees.tokens.before(first), self._trees.tokens.after(last), 0
+        while self._trees.tokens.text_at(before) == "(" and self._trees.tokens.text_at(after) == ")":
             before, after, there = before - 1, after + 1, there + 1
         if place.new.head == "Attribute" and new.head == "Constant" and not isinstance(new.children[0].head, bytes):
             return not there
@@ -189,7 +195,7 @@ class Nodes(Joined):
 
     # Names and operators, which are one token or a few.
     def _word(self, old: Term, new: Term, name: str, one: Term, two: Term) -> list[Edit] | None:
-        head, tokens = str(old.head), self.tokens
+        head, tokens = str(old.head), self._trees.tokens
         if name == "attr" or (name in ("arg", "name") and head in ("keyword", "arg", *DEFINITIONS)):
             if not isinstance(one.head, bytes) or not isinstance(two.head, bytes):
                 raise Cannot
@@ -221,7 +227,7 @@ class Nodes(Joined):
 
     def _names(self, old: Term, one: Term, two: Term) -> list[Edit]:
         first, last = span(old)
-        words = [it for it in self.tokens.between(first, last) if it.kind == tokenize.NAME][1:]
+        words = [it for it in self._trees.tokens.between(first, last) if it.kind == tokenize.NAME][1:]
         if not len(words) == len(one.children) == len(two.children):
             raise Cannot
         changed = zip(words, one.children, two.children)
@@ -231,7 +237,7 @@ class Nodes(Joined):
         module, _, level = new.children
         if not isinstance(level.head, int):
             raise Cannot
-        tokens = self.tokens.between(*span(old))
+        tokens = self._trees.tokens.between(*span(old))
         end = next(at for at, it in enumerate(tokens) if it.text == "import")
         text = b"." * level.head + (module.head if isinstance(module.head, bytes) else b"")
         return [Edit(tokens[1].first, tokens[end - 1].last, text)]
@@ -239,8 +245,8 @@ class Nodes(Joined):
     def _operators(self, old: Term, one: Term, two: Term) -> list[Edit]:
         head = str(old.head)
         if head == "UnaryOp":
-            token = self.tokens.tokens[self.tokens.after(span(old)[0])]
-            space = b" " if two.head == "Not" and self.text[token.last : token.last + 1] not in b" \t(" else b""
+            token = self._trees.tokens.tokens[self._trees.tokens.after(span(old)[0])]
+            space = b" " if two.head == "Not" and self._trees.text[token.last : token.last + 1] not in b" \t(" else b""
             return [Edit(token.first, token.last, OPERATORS[str(two.head)].encode() + space)]
         if head == "BoolOp":
             operands = list(old.children[1].children)
@@ -256,7 +262,7 @@ class Nodes(Joined):
         for (it, new), left, right in zip(pairs, operands, operands[1:]):
             if it == new:
                 continue
-            between = [token for token in self.tokens.between(span(left)[1], span(right)[0]) if token.text not in "()"]
+            between = [token for token in self._trees.tokens.between(span(left)[1], span(right)[0]) if token.text not in "()"]
             text = OPERATORS[str(new.head)] + ("=" if head == "AugAssign" else "")
             edits.append(Edit(between[0].first, between[-1].last, self._spaced(text, between[0].first, between[-1].last)))
         return edits
@@ -265,29 +271,29 @@ class Nodes(Joined):
     def _spaced(self, text: str, first: int, last: int) -> bytes:
         if not text[0].isalpha():
             return text.encode()
-        before = "" if self.text[first - 1 : first] in (b" ", b"\t", b"\n", b"\r", b")", b"]", b"}") else " "
-        after = "" if self.text[last : last + 1] in (b" ", b"\t", b"\n", b"\r", b"(", b"[", b"{", b"\\") else " "
+        before = "" if self._trees.text[first - 1 : first] in (b" ", b"\t", b"\n", b"\r", b")", b"]", b"}") else " "
+        after = "" if self._trees.text[last : last + 1] in (b" ", b"\t", b"\n", b"\r", b"(", b"[", b"{", b"\\") else " "
         return (before + text + after).encode()
 
     def _annotation(self, old: Term, new: Term, one: Term, two: Term) -> list[Edit]:
-        token = self.tokens.tokens[self.tokens.after(span(old)[0])]
+        token = self._trees.tokens.tokens[self._trees.tokens.after(span(old)[0])]
         if one.head == "None":
-            return [Edit(token.last, token.last, b": " + self._text(two, self._frame(token.first)).encode())]
+            return [Edit(token.last, token.last, b": " + self._fresh.text(two, self._trees.frame(token.first)).encode())]
         if two.head == "None":
-            return [Edit(token.last, self._around((token.last, span(old)[1]), one)[1], b"")]
-        return self._child(Place(old, new, (1,)), one, two)
+            return [Edit(token.last, self._commas.around((token.last, span(old)[1]), one)[1], b"")]
+        return self.child(Place(old, new, (1,)), one, two)
 
     def _returns(self, place: Place, old: Term, one: Term, two: Term) -> list[Edit]:
-        colon = self._colon(old)
+        colon = self._trees.colon(old)
         if one.head == "None":
-            return [Edit(colon, colon, b" -> " + self._text(two, self._frame(colon)).encode())]
+            return [Edit(colon, colon, b" -> " + self._fresh.text(two, self._trees.frame(colon)).encode())]
         if two.head == "None":
-            arrow = self.tokens.before(span(one)[0])
-            while self.tokens.tokens[arrow].text != "->":
+            arrow = self._trees.tokens.before(span(one)[0])
+            while self._trees.tokens.tokens[arrow].text != "->":
                 arrow -= 1
-            end = self.tokens.tokens[arrow - 1].last
+            end = self._trees.tokens.tokens[arrow - 1].last
             return [Edit(end, colon, b"")]
-        return self._child(place, one, two)
+        return self.child(place, one, two)
 
 
 # What says how strongly a node binds: its constructor, and its operator.

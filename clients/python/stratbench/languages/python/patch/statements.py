@@ -8,7 +8,10 @@ from typing import NamedTuple
 
 from ....terms import LIST, Term
 from .edits import BLOCKS, IMPORTS, STATEMENTS, Cannot, Edit, aligned, field_of, span
+from .fresh import Fresh
 from .moved import Moved
+from .nodes import Nodes
+from .trees import Trees
 
 
 class Stretch(NamedTuple):
@@ -31,39 +34,42 @@ def _stretches(old: int, new: int, pairs: list[tuple[int, int]]) -> list[Stretch
     return found[:-1]
 
 
-class Statements(Moved):
+class Statements:
     """The edits of blocks."""
 
-    # The edits within a statement, or those that make it anew.
-    def _statement(self, old: Term, new: Term, indent: bytes) -> list[Edit]:
+    def __init__(self, trees: Trees, fresh: Fresh, nodes: Nodes, moved: Moved) -> None:
+        self._trees, self._fresh, self._nodes, self._moved = trees, fresh, nodes, moved
+
+    def statement(self, old: Term, new: Term, indent: bytes) -> list[Edit]:
+        """The edits within a statement, or those that make it anew."""
         if old is new:
             return []
-        if old.head == new.head and not self.plain:
-            found = self._tried(lambda: self._inside(old, new))
+        if old.head == new.head and not self._trees.plain:
+            found = self._trees.tried(lambda: self._nodes.inside(old, new))
             if found is not None:
                 return found
-        return [Edit(self._begin(old), self._end_with_comments(old), self._fresh_statement(new, indent))]
+        return [Edit(self._trees.begin(old), self._moved.end_with_comments(old), self._fresh.statement(new, indent))]
 
-    # The edits for a list of statements that isn't empty before and after, but for that of a module.
-    def _block(self, owner_old: Term, owner_new: Term, name: str, indent: bytes) -> list[Edit]:
+    def block(self, owner_old: Term, owner_new: Term, name: str, indent: bytes) -> list[Edit]:
+        """The edits for a list of statements that isn't empty before and after, but for that of a module."""
         old, new = field_of(owner_old, name).children, field_of(owner_new, name).children
-        if old and self._leads(old[0]):
-            indent = self._indent(self._begin(old[0]))
+        if old and self._trees.leads(old[0]):
+            indent = self._trees.indent(self._trees.begin(old[0]))
         # at one place, what comes first stands first: what is before all statements, what is in one, what is after it
         front: list[Edit] = []
         changed: list[Edit] = []
         between: list[Edit] = []
         pairs = self._pairs(old, new)
-        self.staying.update(id(old[at]) for at, _ in pairs)
+        self._trees.staying.update(id(old[at]) for at, _ in pairs)
         for line in self._lines(old, _stretches(len(old), len(new), pairs)):
             first, last = line[0].goes.start, line[-1].goes.stop
             if self._is_broken(old, new, line):
-                self.staying.difference_update(id(it) for it in old[first:last])
+                self._trees.staying.difference_update(id(it) for it in old[first:last])
                 changed += self._replaced(old, first, last, new[line[0].comes.start : line[-1].comes.stop], indent)
                 continue
             for it in line:
                 if it.stays:
-                    changed += self._statement(old[it.goes.start], new[it.comes.start], indent)
+                    changed += self.statement(old[it.goes.start], new[it.comes.start], indent)
                 else:
                     edits = self._gap(old, it.goes.start, it.goes.stop, new[it.comes.start : it.comes.stop], indent)
                     (between if it.goes.start else front).extend(edits)
@@ -71,11 +77,11 @@ class Statements(Moved):
 
     # The stretches of a block by lines of the source.
     def _lines(self, old: tuple[Term, ...], stretches: list[Stretch]) -> list[list[Stretch]]:
-        in_head = bool(old) and not self._leads(old[0])
+        in_head = bool(old) and not self._trees.leads(old[0])
         lines: list[list[Stretch]] = []
         for it in stretches:
             at = it.goes.start
-            if lines and (in_head or (at < len(old) and not self._leads(old[at]))):
+            if lines and (in_head or (at < len(old) and not self._trees.leads(old[at]))):
                 lines[-1].append(it)
             else:
                 lines.append([it])
@@ -86,12 +92,12 @@ class Statements(Moved):
         goes = old[line[0].goes.start : line[-1].goes.stop]
         if not goes or not any(new[at].head in BLOCKS for it in line if not it.stays for at in it.comes):
             return False
-        return len(line) > 1 or not self._leads(goes[0]) or any(self._is_followed(it) for it in goes)
+        return len(line) > 1 or not self._trees.leads(goes[0]) or any(self._trees.is_followed(it) for it in goes)
 
     # The old and the new places of the statements that are the same ones, in order.
     def _pairs(self, old: tuple[Term, ...], new: tuple[Term, ...]) -> list[tuple[int, int]]:
         homes = {id(it): at for at, it in enumerate(old)}
-        pairs = aligned([homes.get(id(self._was(it))) for it in new])
+        pairs = aligned([homes.get(id(self._trees.was(it))) for it in new])
         found: list[tuple[int, int]] = []
         for (old_from, new_from), (old_to, new_to) in zip([(-1, -1), *pairs], [*pairs, (len(old), len(new))]):
             goes, comes = range(old_from + 1, old_to), range(new_from + 1, new_to)
@@ -102,16 +108,16 @@ class Statements(Moved):
     def _replacements(self, old: tuple[Term, ...], goes: range, new: tuple[Term, ...], comes: range) -> list[tuple[int, int]]:
         found: list[tuple[int, int]] = []
         left: dict[object, list[int]] = {}
-        for at in goes if comes and not self.plain else ():
-            if not self.former.is_taken(old[at]):
+        for at in goes if comes and not self._trees.plain else ():
+            if not self._trees.former.is_taken(old[at]):
                 left.setdefault(old[at].head, []).append(at)
-        begins = [self._begin(old[at]) for at in goes] if left else []
+        begins = [self._trees.begin(old[at]) for at in goes] if left else []
         first = goes.start
         for other in comes if left else ():
             alike = left.get(new[other].head, [])
-            if not alike or self._was(new[other]) is not None:
+            if not alike or self._trees.was(new[other]) is not None:
                 continue
-            part = self.former.part_of(new[other])
+            part = self._trees.former.part_of(new[other])
             owner = first if part is None else self._owner(old, goes, begins, part)
             place = bisect_left(alike, first if owner is None else max(owner, first))
             if owner is not None and place < len(alike) and (part is None or alike[place] == owner):
@@ -125,9 +131,9 @@ class Statements(Moved):
         if first == last or not comes:
             return self._replaced(old, first, last, comes, indent)
         units: list[tuple[int | None, list[Term]]] = []
-        begins = [self._begin(it) for it in old[first:last]]
+        begins = [self._trees.begin(it) for it in old[first:last]]
         for it in comes:
-            part = self.former.part_of(it)
+            part = self._trees.former.part_of(it)
             owner = None if part is None else self._owner(old, range(first, last), begins, part)
             if units and owner is not None and units[-1][0] == owner:
                 units[-1][1].append(it)
@@ -148,20 +154,20 @@ class Statements(Moved):
 
     # Where the statements from one on end that are all in these new ones.
     def _held(self, old: tuple[Term, ...], first: int, last: int, new: list[Term]) -> int:
-        held = self._all_in(new)
+        held = self.all_in(new)
         end = first + 1
         while end < last and id(old[end]) in held:
             end += 1
         return end
 
-    # The old statements, by their ids, that are in these new ones and in their blocks.
-    def _all_in(self, new: Sequence[Term]) -> set[int]:
+    def all_in(self, new: Sequence[Term]) -> set[int]:
+        """The old statements, by their ids, that are in these new ones and in their blocks."""
         found: set[int] = set()
         waiting = list(new)
         while waiting:
             it = waiting.pop()
             if it.head in STATEMENTS:
-                found.add(id(self._was(it)))
+                found.add(id(self._trees.was(it)))
             if it.head in BLOCKS:
                 waiting += [inner for child in it.children if child.head == LIST for inner in child.children]
         return found
@@ -179,34 +185,34 @@ class Statements(Moved):
         simple = all(it.head not in BLOCKS for it in comes)
         if first == last:
             return self._inserted(old, first, comes, indent, simple)
-        begin, end = self._begin(old[first]), span(old[last - 1])[1]
+        begin, end = self._trees.begin(old[first]), span(old[last - 1])[1]
         if not comes:
             return self._deleted(old, first, last)
-        if not simple and not self._leads(old[0]):
+        if not simple and not self._trees.leads(old[0]):
             # a block in the line of its head
-            begin = self.tokens.tokens[self.tokens.before(self._begin(old[0]))].last
-            return [Edit(begin, self._end_with_comments(old[last - 1]), self.newline + indent + self._rendered(comes, indent))]
-        if not self._leads(old[first]) or self._is_followed(old[last - 1]):
+            begin = self._trees.tokens.tokens[self._trees.tokens.before(self._trees.begin(old[0]))].last
+            return [Edit(begin, self._moved.end_with_comments(old[last - 1]), self._trees.newline + indent + self._moved.rendered(comes, indent))]
+        if not self._trees.leads(old[first]) or self._trees.is_followed(old[last - 1]):
             if not simple:
                 raise Cannot
-            text = b"; ".join(self._rendered((it,), indent) for it in comes)
+            text = b"; ".join(self._moved.rendered((it,), indent) for it in comes)
             return [Edit(begin, end, text)]
         for stop in range(first + 1, last):
-            if self._leads(old[stop]) and not self._all_goes(self._statement_end(old[stop - 1])[1], self._begin(old[stop])):
+            if self._trees.leads(old[stop]) and not self._all_goes(self._trees.statement_end(old[stop - 1])[1], self._trees.begin(old[stop])):
                 # line by line, so that the comments between stay
                 return self._replaced(old, first, stop, comes, indent) + self._deleted(old, stop, last)
-        begin = self._begin_with_comments(old[first])
-        end = self._end_with_comments(old[last - 1])
-        text = self._rendered(comes, indent)
-        semicolon = self.tokens.after(end)
-        if comes[-1].head in BLOCKS and self.tokens.text_at(semicolon) == ";":
-            end = self.tokens.tokens[semicolon].last
-        line = self._line_start(begin)
-        above = self._room(comes[0], indent) - self._blanks_before(line)[0] if first else 0
+        begin = self._moved.begin_with_comments(old[first])
+        end = self._moved.end_with_comments(old[last - 1])
+        text = self._moved.rendered(comes, indent)
+        semicolon = self._trees.tokens.after(end)
+        if comes[-1].head in BLOCKS and self._trees.tokens.text_at(semicolon) == ";":
+            end = self._trees.tokens.tokens[semicolon].last
+        line = self._trees.line_start(begin)
+        above = self._moved.room(comes[0], indent) - self._trees.blanks_before(line)[0] if first else 0
         if above > 0:
-            begin, text = line, self.newline * above + indent + text
-        below = self._room(comes[-1], indent) - len(self._blanks_after(self._line_end(end)[1])) if last < len(old) else 0
-        return [Edit(begin, end, text + self.newline * below)]
+            begin, text = line, self._trees.newline * above + indent + text
+        below = self._moved.room(comes[-1], indent) - len(self._trees.blanks_after(self._trees.line_end(end)[1])) if last < len(old) else 0
+        return [Edit(begin, end, text + self._trees.newline * below)]
 
     # The edits without these statements, line by line.
     def _deleted(self, old: tuple[Term, ...], first: int, last: int) -> list[Edit]:
@@ -214,81 +220,81 @@ class Statements(Moved):
         lines: list[tuple[int, int]] = []
         while first < last:
             stop = first + 1
-            while stop < last and not self._leads(old[stop]):
+            while stop < last and not self._trees.leads(old[stop]):
                 stop += 1
-            begin, end = self._begin(old[first]), span(old[stop - 1])[1]
-            if self._is_followed(old[stop - 1]):
-                edits.append(Edit(begin, self._begin(old[stop]), b""))
-            elif self._leads(old[first]):
-                begin = self._line_start(self._begin_with_comments(old[first]))
-                end = max(self._statement_end(old[stop - 1])[1], self._line_end(self._end_with_comments(old[stop - 1]))[1])
+            begin, end = self._trees.begin(old[first]), span(old[stop - 1])[1]
+            if self._trees.is_followed(old[stop - 1]):
+                edits.append(Edit(begin, self._trees.begin(old[stop]), b""))
+            elif self._trees.leads(old[first]):
+                begin = self._trees.line_start(self._moved.begin_with_comments(old[first]))
+                end = max(self._trees.statement_end(old[stop - 1])[1], self._trees.line_end(self._moved.end_with_comments(old[stop - 1]))[1])
                 if lines and self._all_goes(lines[-1][1], begin):
                     begin, _ = lines.pop()
                 lines.append((begin, end))
             elif first == 0:
                 raise Cannot
             else:
-                edits.append(Edit(span(old[first - 1])[1], self._end_with_comments(old[stop - 1]), b""))
+                edits.append(Edit(span(old[first - 1])[1], self._moved.end_with_comments(old[stop - 1]), b""))
             first = stop
         is_last = last == len(old)
         return edits + [self._lines_away(*it, is_last and it is lines[-1]) for it in lines]
 
     # Whether all comments from one place between statements to another go elsewhere.
     def _all_goes(self, first: int, last: int) -> bool:
-        return all(it.first in self.carried for it in self.tokens.comments_between(first, last))
+        return all(it.first in self._trees.carried for it in self._trees.tokens.comments_between(first, last))
 
     # The edit without some lines. Of the blank lines around them the more stay; those after a block aren't its own.
     def _lines_away(self, begin: int, end: int, is_last: bool) -> Edit:
-        before, where = self._blanks_before(begin)
-        after = self._blanks_after(end)
+        before, where = self._trees.blanks_before(begin)
+        after = self._trees.blanks_after(end)
         if is_last:
             begin = where
         elif after and (before or begin == 0):
             end = after[min(before, len(after)) - 1 if begin else -1]
         return Edit(begin, end, b"")
 
-    # The edit that puts lines after that of a statement, and after the comments there that are deeper than an indentation.
-    def _line_after(self, statement: Term, lines: bytes, indent: bytes) -> Edit:
-        end, after = self._line_end(self._tail(self._statement_end(statement)[0], indent, False))
-        return Edit(after, after, lines + self.newline) if after > end else Edit(end, end, self.newline + lines)
+    def line_after(self, statement: Term, lines: bytes, indent: bytes) -> Edit:
+        """The edit that puts lines after that of a statement, and after the comments there that are deeper than an indentation."""
+        end, after = self._trees.line_end(self._trees.tail(self._trees.statement_end(statement)[0], indent, False))
+        return Edit(after, after, lines + self._trees.newline) if after > end else Edit(end, end, self._trees.newline + lines)
 
     def _inserted(self, old: tuple[Term, ...], at: int, comes: tuple[Term, ...], indent: bytes, simple: bool) -> list[Edit]:
         if at > 0:
             before = old[at - 1]
-            if self._is_followed(before) or (not self._leads(before) and not self._leads(old[0])):
+            if self._trees.is_followed(before) or (not self._trees.leads(before) and not self._trees.leads(old[0])):
                 if not simple:
                     raise Cannot
                 place = span(before)[1]
-                return [Edit(place, place, b"".join(b"; " + self._rendered((it,), indent) for it in comes))]
+                return [Edit(place, place, b"".join(b"; " + self._moved.rendered((it,), indent) for it in comes))]
             return [self._lines_between(old, at, comes, indent)]
         if old:
-            place = self._begin(old[0])
-            if self._leads(old[0]):
-                place = self._leading_comments(place)
-                room = max(self._room(comes[-1], indent), self._room(old[0], indent))
+            place = self._trees.begin(old[0])
+            if self._trees.leads(old[0]):
+                place = self._trees.leading_comments(place)
+                room = max(self._moved.room(comes[-1], indent), self._moved.room(old[0], indent))
                 if comes[-1].head in IMPORTS and old[0].head not in IMPORTS and not indent:
                     room = max(room, 1)
-                text = self._rendered(comes, indent) + self.newline * (1 + room)
+                text = self._moved.rendered(comes, indent) + self._trees.newline * (1 + room)
                 return [Edit(place, place, text + indent)]
             if not simple:
                 raise Cannot
-            return [Edit(place, place, b"".join(self._rendered((it,), indent) + b"; " for it in comes))]
-        text = self._rendered(comes, indent) + self.newline
-        if self.text and not self.text.endswith((b"\n", b"\r")):
-            text = self.newline + text
-        return [Edit(len(self.text), len(self.text), text)]
+            return [Edit(place, place, b"".join(self._moved.rendered((it,), indent) + b"; " for it in comes))]
+        text = self._moved.rendered(comes, indent) + self._trees.newline
+        if self._trees.text and not self._trees.text.endswith((b"\n", b"\r")):
+            text = self._trees.newline + text
+        return [Edit(len(self._trees.text), len(self._trees.text), text)]
 
     # The edit that puts statements on lines after those of another: an import next to imports, definitions with room around.
     def _lines_between(self, old: tuple[Term, ...], at: int, comes: tuple[Term, ...], indent: bytes) -> Edit:
-        before, text = old[at - 1], self._rendered(comes, indent)
-        edit = self._line_after(before, indent + text, indent)
-        there = len(self._blanks_after(edit.first))
+        before, text = old[at - 1], self._moved.rendered(comes, indent)
+        edit = self.line_after(before, indent + text, indent)
+        there = len(self._trees.blanks_after(edit.first))
         if comes[0].head in IMPORTS and before.head not in IMPORTS and at < len(old):
-            if old[at].head in IMPORTS and self._leads(old[at]):
-                place = self._leading_comments(self._begin(old[at]))
-                return Edit(place, place, text + self.newline + indent)
+            if old[at].head in IMPORTS and self._trees.leads(old[at]):
+                place = self._trees.leading_comments(self._trees.begin(old[at]))
+                return Edit(place, place, text + self._trees.newline + indent)
             room = there
         else:
-            room = max(self._room(before, indent), self._room(comes[0], indent))
-        below = max(0, self._room(comes[-1], indent) - there) if at < len(old) else 0
-        return edit._replace(text=self.newline * room + edit.text + self.newline * below)
+            room = max(self._moved.room(before, indent), self._moved.room(comes[0], indent))
+        below = max(0, self._moved.room(comes[-1], indent) - there) if at < len(old) else 0
+        return edit._replace(text=self._trees.newline * room + edit.text + self._trees.newline * below)

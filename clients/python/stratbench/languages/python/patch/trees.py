@@ -4,7 +4,6 @@ from __future__ import annotations
 
 import re
 import tokenize
-from abc import ABC, abstractmethod
 from bisect import bisect_left, bisect_right
 from collections.abc import Sequence
 from functools import cached_property
@@ -30,8 +29,8 @@ class Place(NamedTuple):
         return self._replace(path=(*self.path, *steps))
 
 
-class Base(ABC):
-    """The source with its old tree, and the new tree."""
+class Trees:
+    """The source with its old tree, and the new tree. Of the old one it says what is where in its lines."""
 
     def __init__(self, source: Source, new: Term, marks: Marks | None = None) -> None:
         self.source, self.text = source, source.text
@@ -64,7 +63,7 @@ class Base(ABC):
         self.carried: set[int] = set()
         self.carrying: list[tuple[int, int]] = []
         self.staying: set[int] = set()
-        self.newline = b"\r\n" if b"\r\n" in self.text[: self._line_end(0)[1]] else b"\n"
+        self.newline = b"\r\n" if b"\r\n" in self.text[: self.line_end(0)[1]] else b"\n"
         if self.newline == b"\n" and b"\n" not in self.text and b"\r" in self.text:
             self.newline = b"\r"
 
@@ -76,7 +75,7 @@ class Base(ABC):
     @cached_property
     def former(self) -> Former:
         """What the new nodes were, which is asked only where they aren't old ones themselves."""
-        return Former(self.old, self.new, self._origin)
+        return Former(self.old, self.new, self.origin)
 
     # The new tree with the old nodes in the places where nothing changed, so that `is` compares them.
     def _shared(self, new: Term, candidate: Term | None) -> Term:
@@ -98,8 +97,8 @@ class Base(ABC):
             return candidate
         return normal(Term(new.head, children, new.annotations))
 
-    # Edits, or nothing where they can't be made. Then no comments go elsewhere by them.
-    def _tried(self, edits: Callable[[], list[Edit]]) -> list[Edit] | None:
+    def tried(self, edits: Callable[[], list[Edit]]) -> list[Edit] | None:
+        """Edits, or nothing where they can't be made. Then no comments go elsewhere by them."""
         before = len(self.carrying)
         try:
             return edits()
@@ -107,130 +106,123 @@ class Base(ABC):
             del self.carrying[before:]
             return None
 
-    def _origin(self, term: Term) -> Term | None:
+    def origin(self, term: Term) -> Term | None:
+        """The old node that a new one has the position of."""
         place = position(term)
         return None if place is None else self.origins.get((*place, term.head))
 
-    # The statement that a new one was. What is made anew as a whole was none.
-    def _was(self, statement: Term) -> Term | None:
-        return self._origin(statement) or (None if self.plain else self.former.of(statement))
+    def was(self, statement: Term) -> Term | None:
+        """The statement that a new one was. What is made anew as a whole was none."""
+        return self.origin(statement) or (None if self.plain else self.former.of(statement))
 
-    # Whether an old node, in whose place another comes, is elsewhere in the new tree.
-    def _moved(self, old: Term, new: Term) -> bool:
-        origin = self._origin(new)
+    def is_moved(self, old: Term, new: Term) -> bool:
+        """Whether an old node, in whose place another comes, is elsewhere in the new tree."""
+        origin = self.origin(new)
         return origin is not old and (origin is not None or self.former.is_present(old))
 
-    # Old text with edits in it, and with marks in its comments.
-    def _copied(self, first: int, last: int, edits: Sequence[Edit]) -> bytes:
+    def copied(self, first: int, last: int, edits: Sequence[Edit]) -> bytes:
+        """Old text with edits in it, and with marks in its comments."""
         comments = self.tokens.comments_between(first, last)
         if comments:
             edits = [*edits, *self.marks.edits(comments, sorted(edits, key=lambda it: (it.first, it.last)))]
         return apply_edits(self.text, first, last, edits)
 
-    # What the classes above say of nodes and statements.
-
-    @abstractmethod
-    def _inside(self, old: Term, new: Term) -> list[Edit]: ...
-
-    @abstractmethod
-    def _child(self, place: Place, old: Term, new: Term) -> list[Edit]: ...
-
-    @abstractmethod
-    def _fields(self, place: Place, old: Term, new: Term) -> list[Edit]: ...
-
-    @abstractmethod
-    def _rendered(self, new: Sequence[Term], indent: bytes) -> bytes: ...
 
     # Places in the lines of the source.
 
-    def _begin(self, statement: Term) -> int:
+    def begin(self, statement: Term) -> int:
+        """Where a statement begins, with its decorators."""
         first = span(statement)[0]
         if statement.head in DEFINITIONS and field_of(statement, "decorator_list").children:
-            return self._at_sign(field_of(statement, "decorator_list").children[0])
+            return self.at_sign(field_of(statement, "decorator_list").children[0])
         return first
 
-    def _at_sign(self, decorator: Term) -> int:
+    def at_sign(self, decorator: Term) -> int:
+        """Where the sign before a decorator is."""
         at = self.tokens.before(span(decorator)[0])
         while self.tokens.tokens[at].text != "@":
             at -= 1
         return self.tokens.tokens[at].first
 
-    def _line_start(self, place: int) -> int:
+    def line_start(self, place: int) -> int:
+        """Where the line of a place begins."""
         starts = self.source.lines.starts
         return starts[bisect_right(starts, place) - 1]
 
-    # Where the line of a place ends, without and with its line end.
-    def _line_end(self, place: int) -> tuple[int, int]:
+    def line_end(self, place: int) -> tuple[int, int]:
+        """Where the line of a place ends, without and with its line end."""
         starts = self.source.lines.starts
         at = bisect_right(starts, place)
         after = starts[at] if at < len(starts) else len(self.text)
         return after - len(self.text[place:after]) + len(self.text[place:after].rstrip(b"\r\n")), after
 
-    # Where the last line of a statement ends.
-    def _statement_end(self, statement: Term) -> tuple[int, int]:
+    def statement_end(self, statement: Term) -> tuple[int, int]:
+        """Where the last line of a statement ends."""
         at = self.tokens.after(span(statement)[1])
         while at < len(self.tokens.tokens) and self.tokens.tokens[at].kind != tokenize.NEWLINE:
             at += 1
         place = self.tokens.tokens[at].first if at < len(self.tokens.tokens) else len(self.text)
-        return self._line_end(place)
+        return self.line_end(place)
 
-    # Whether a statement is the first of its line.
-    def _leads(self, statement: Term) -> bool:
-        before = self.tokens.before(self._begin(statement))
+    def leads(self, statement: Term) -> bool:
+        """Whether a statement is the first of its line."""
+        before = self.tokens.before(self.begin(statement))
         return before < 0 or self.tokens.tokens[before].kind == tokenize.NEWLINE
 
-    # Whether another statement comes after this one in its line.
-    def _is_followed(self, statement: Term) -> bool:
+    def is_followed(self, statement: Term) -> bool:
+        """Whether another statement comes after this one in its line."""
         at = self.tokens.after(span(statement)[1])
         return self.tokens.text_at(at) == ";" and self.tokens.tokens[at + 1].kind != tokenize.NEWLINE
 
-    def _indent(self, place: int) -> bytes:
-        found = re.compile(rb"[ \t\f]*").match(self.text, self._line_start(place))
+    def indent(self, place: int) -> bytes:
+        """The indentation of the line of a place."""
+        found = re.compile(rb"[ \t\f]*").match(self.text, self.line_start(place))
         return found.group() if found else b""
 
-    # The indentation of the statement that a place is in.
-    def _frame(self, place: int) -> bytes:
-        return self._indent(self.tokens.logical_line(place))
+    def frame(self, place: int) -> bytes:
+        """The indentation of the statement that a place is in."""
+        return self.indent(self.tokens.logical_line(place))
 
-    # The place of the colon that ends the head of a statement.
-    def _colon(self, statement: Term) -> int:
+    def colon(self, statement: Term) -> int:
+        """The place of the colon that ends the head of a statement."""
         body = field_of(statement, "body").children[0]
-        at = self.tokens.before(self._begin(body))
+        at = self.tokens.before(self.begin(body))
         while self.tokens.tokens[at].text != ":":
             at -= 1
         return self.tokens.tokens[at].first
 
-    # The comment after a place in its line.
-    def _comment_after(self, place: int) -> Token | None:
+    def comment_after(self, place: int) -> Token | None:
+        """The comment after a place in its line."""
         at = self.tokens.after(place)
         if at < len(self.tokens.tokens) and self.tokens.tokens[at].kind != tokenize.NEWLINE:
             return None
         follows = bisect_left(self.tokens.comment_firsts, place)
-        if follows < len(self.tokens.comments) and self.tokens.comments[follows].last <= self._line_end(place)[0]:
+        if follows < len(self.tokens.comments) and self.tokens.comments[follows].last <= self.line_end(place)[0]:
             return self.tokens.comments[follows]
         return None
 
-    # Where the comments right before a line begin that are as deep as it, of all or of these. Those from the first line of the
-    # file on are about the file.
-    def _leading_comments(self, place: int, some: set[int] | None = None) -> int:
+    def leading_comments(self, place: int, some: set[int] | None = None) -> int:
+        """Where the comments right before a line begin that are as deep as it, of all or of these. Those from the first line of the file on
+        are about the file.
+        """
         begin = place
-        line = self._line_start(place)
-        indent = self._indent(place)
+        line = self.line_start(place)
+        indent = self.indent(place)
         while line > 0:
-            above = self._line_start(line - 1)
-            start = above + len(self._indent(above))
-            if start not in self.tokens.comment_lines or self._indent(above) != indent or (some is not None and start not in some):
+            above = self.line_start(line - 1)
+            start = above + len(self.indent(above))
+            if start not in self.tokens.comment_lines or self.indent(above) != indent or (some is not None and start not in some):
                 return begin
             begin, line = start, above
         return place
 
-    # Where the comments end on the lines after that of a place, of all or of these: those deeper than an indentation, or as deep.
-    def _tail(self, place: int, indent: bytes, as_deep: bool, some: set[int] | None = None) -> int:
-        end, line = place, self._line_end(place)[1]
+    def tail(self, place: int, indent: bytes, as_deep: bool, some: set[int] | None = None) -> int:
+        """Where the comments end on the lines after that of a place, of all or of these: those deeper than an indentation, or as deep."""
+        end, line = place, self.line_end(place)[1]
         while line < len(self.text):
-            own = self._indent(line)
+            own = self.indent(line)
             comment = self.tokens.comment_lines.get(line + len(own))
-            after = self._line_end(line)[1]
+            after = self.line_end(line)[1]
             if comment is None:
                 if self.text[line:after].strip():
                     break
@@ -241,28 +233,28 @@ class Base(ABC):
             line = after
         return end
 
-    # How many blank lines are before a line, and where they begin.
-    def _blanks_before(self, line: int) -> tuple[int, int]:
+    def blanks_before(self, line: int) -> tuple[int, int]:
+        """How many blank lines are before a line, and where they begin."""
         count = 0
         while line > 0:
-            above = self._line_start(line - 1)
+            above = self.line_start(line - 1)
             if self.text[above:line].strip(b" \t\r\n"):
                 break
             count, line = count + 1, above
         return count, line
 
-    # How many blank lines there are from a line on, and where each of them ends.
-    def _blanks_after(self, line: int) -> list[int]:
+    def blanks_after(self, line: int) -> list[int]:
+        """How many blank lines there are from a line on, and where each of them ends."""
         ends: list[int] = []
         while line < len(self.text):
-            line, begin = self._line_end(line)[1], line
+            line, begin = self.line_end(line)[1], line
             if self.text[begin:line].strip(b" \t\r\n"):
                 break
             ends.append(line)
         return ends
 
-    # A text of statements, or of an expression, with another indentation. Lines within strings stay.
-    def _indented(self, text: bytes, old: bytes, new: bytes, is_expression: bool = False) -> bytes:
+    def indented(self, text: bytes, old: bytes, new: bytes, is_expression: bool = False) -> bytes:
+        """A text of statements, or of an expression, with another indentation. Lines within strings stay."""
         if old == new or (b"\n" not in text and b"\r" not in text):
             return text
         lines = re.split(rb"(?<=\n)|(?<=\r)(?!\n)", text)
@@ -274,12 +266,13 @@ class Base(ABC):
             out.append(line)
         return b"".join(out)
 
-    # The places between the brackets of a literal.
-    def _inside_of(self, display: Term) -> tuple[int, int]:
+    def inside_of(self, display: Term) -> tuple[int, int]:
+        """The places between the brackets of a literal."""
         first, last = span(display)
-        return (first, last) if display.head == "Tuple" and not self._is_bracketed_tuple(display) else (first + 1, last - 1)
+        return (first, last) if display.head == "Tuple" and not self.is_bracketed_tuple(display) else (first + 1, last - 1)
 
-    def _is_bracketed_tuple(self, term: Term) -> bool:
+    def is_bracketed_tuple(self, term: Term) -> bool:
+        """Whether the brackets of a tuple are its own."""
         tokens = self.tokens.between(*span(term))
         depth = 0
         for at, token in enumerate(tokens):
