@@ -49,23 +49,25 @@ class Search:
         self._grammar, self._text, self._new, self._edits, self._parse = grammar, text, new, edits, parse
         self._renderer = Renderer(newline, templates.brackets)
         self._nodes = {id(it): at for at, it in enumerate(templates.marked_nodes)}
+        self._kept = frozenset(templates.kept)
         self._wanted = plain(new).encode()
         self._parses = 0
         self._why = ""
 
     def found(self, frames: Sequence[Frame], alone: Optional[Alone], fewest: bool = True) -> Found:
         """Returns the text, with the fewest brackets or with enough. Raises `Unwritable` where none was found."""
-        active: set[int] = set()
+        active = set(self._kept)
         regions = self._regions(active)
         if regions and alone is not None:
-            local = self._local(frames, alone)
-            if local:
+            local = self._local(frames, alone, active)
+            if local != active:
                 active = local
                 regions = self._regions(active)
+        some: Set[int] = self._kept
         if regions:
-            active = self._searched(regions, active)
-            if fewest:
-                active = self._least(active)
+            some = active = self._searched(regions, active)
+        if fewest:
+            active = self._least(active, some)
         return Found(self._assembled(active), self._parses)
 
     def _assembled(self, active: Set[int]) -> Assembled:
@@ -129,23 +131,22 @@ class Search:
         first, last = regions[0][:2]
         return self._assembled(active).text[first : min(last, first + 60)].decode(errors="replace")
 
-    # The brackets that are needed: those are left out that do nothing, half of them at a time.
-    def _least(self, active: set[int]) -> set[int]:
-        waiting = [sorted(active, reverse=True)]
+    # The brackets that are needed: of some those are left out that do nothing, half of them at a time.
+    def _least(self, active: set[int], some: Set[int]) -> set[int]:
+        waiting = [sorted(active & some, reverse=True)]
         while waiting:
-            some = waiting.pop()
-            if not self._regions(active - set(some)):
-                active -= set(some)
-            elif len(some) > 1:
-                waiting += [some[: len(some) // 2], some[len(some) // 2 :]]
+            part = waiting.pop()
+            if part and not self._regions(active - set(part)):
+                active = active - set(part)
+            elif len(part) > 1:
+                waiting += [part[: len(part) // 2], part[len(part) // 2 :]]
         return active
 
     # --- statements alone
 
     # The brackets that statements need which have edits, as far as they can be parsed alone, from the innermost on.
-    def _local(self, frames: Sequence[Frame], alone: Alone) -> set[int]:
-        found: set[int] = set()
-        done: set[int] = set()
+    def _local(self, frames: Sequence[Frame], alone: Alone, active: Set[int]) -> set[int]:
+        found, done = set(active), set(active)
         for it in frames:
             first, last = span(it.old)
             edits = [one for one in self._edits if first <= one.first and one.last <= last]

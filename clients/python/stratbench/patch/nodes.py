@@ -16,6 +16,10 @@ from .ropes import RopeEdit, in_order
 from .templates import Templates
 
 
+# Where an old node has brackets that it needs.
+Brackets = Callable[[Term], Optional[tuple[int, int]]]
+
+
 class Frame:
     """A statement that stays and has edits in it: where it is, and the new one. What is wrong in it can be looked for there alone."""
 
@@ -26,8 +30,10 @@ class Frame:
 class Nodes:
     """The edits within nodes. `frames` are the statements that have some, those inside before those around."""
 
-    def __init__(self, grammar: Grammar, layout: Layout, templates: Templates, is_present: Callable[[Term], bool]) -> None:
-        self._grammar, self._layout, self._templates = grammar, layout, templates
+    def __init__(
+        self, grammar: Grammar, layout: Layout, templates: Templates, is_present: Callable[[Term], bool], brackets: Brackets = lambda old: None
+    ) -> None:
+        self._grammar, self._layout, self._templates, self._brackets = grammar, layout, templates, brackets
         self._lists = Lists(grammar, layout, templates, self, is_present)
         self._is_present = is_present
         self.frames: list[Frame] = []
@@ -51,10 +57,14 @@ class Nodes:
             edits = [RopeEdit(first, last, placed(self._anew(old, new), self._layout.indent(first)), tight)]
         elif new.head in self._grammar.constructors and self._grammar.sort(new) == "statement":
             self.frames.append(Frame(old, new))
-        if plain or not self._grammar.has_brackets(new):
+        there = self._brackets(old) if not plain and self._binds_otherwise(old, new) else None
+        if plain or there is None and not self._grammar.has_brackets(new):
             return edits
-        opens, closes = self._templates.marks(new)
-        return [RopeEdit(first, first, [opens]), *edits, RopeEdit(last, last, [closes])]
+        return self._templates.around(old, new, edits, there)
+
+    # Whether brackets around an old node may do nothing around a new one.
+    def _binds_otherwise(self, old: Term, new: Term) -> bool:
+        return old.head != new.head or any(isinstance(it.head, bytes) and it != other for it, other in zip(old.children, new.children))
 
     # The text of a node that comes for an old one, with the comments of that which are between what stays of it.
     def _anew(self, old: Term, new: Term) -> Rope:
@@ -134,9 +144,7 @@ class Nodes:
     def _around(self, node: Term) -> list[RopeEdit]:
         if not self._grammar.has_brackets(node):
             return []
-        first, last = span(node)
-        opens, closes = self._templates.marks(node)
-        return [RopeEdit(first, first, [opens]), RopeEdit(last, last, [closes])]
+        return self._templates.around(node, node, [], self._brackets(node))
 
     # A name, an operator, a flag.
     def _word(self, old: Term, field: Field, one: Term, two: Term) -> list[RopeEdit]:

@@ -13,6 +13,7 @@ from .dialect import Dialect
 from .edits import Cannot, Patch, Unwritable
 from .layout import Comment, Layout
 from .nodes import Nodes
+from .redundant import OldBrackets
 from .rope import notes, without
 from .ropes import RopeEdit
 from .templates import Templates
@@ -46,6 +47,7 @@ class Patcher:
         self.layout = Layout(dialect.grammar, text, old, dialect.comment, dialect.line_comments)
         self.new = self._shared(new, old)
         self.parses = 0
+        self._brackets = OldBrackets(dialect, self.layout, parse)
 
     # The new tree with the old nodes where nothing changed, so that `is` compares them.
     def _shared(self, new: Term, candidate: Optional[Term]) -> Term:
@@ -93,7 +95,7 @@ class Patcher:
         dialect, layout = self._dialect, self.layout
         style = dialect.style(layout)._replace(without=frozenset() if complete else layout.missing())
         templates = Templates(dialect, layout, style)
-        nodes = Nodes(dialect.grammar, layout, templates, self._is_present)
+        nodes = Nodes(dialect.grammar, layout, templates, self._is_present, self._brackets.needed)
         nodes.coarse = coarse
         edits = nodes.slot(self._old, self.new)
         edits, lost = self._owned(edits)

@@ -28,8 +28,9 @@ class Templates:
     def __init__(self, dialect: Dialect, layout: Layout, style: Style) -> None:
         self._dialect, self._layout, self._style = dialect, layout, style
         self._grammar = dialect.grammar
-        # the nodes of the pairs of marks, by their numbers
+        # the nodes of the pairs of marks, by their numbers; and the brackets of those that are in the source, with the blanks inside them
         self.marked_nodes: list[Term] = []
+        self.kept: dict[int, Brackets] = {}
         self.inside: Inside
 
     def rope(self, new: Term, like: bytes = b"") -> Rope:
@@ -62,13 +63,23 @@ class Templates:
 
     def brackets(self, number: int) -> Brackets:
         """Returns the brackets of a pair of marks."""
-        return self._grammar.brackets[self._grammar.sort(self.marked_nodes[number])]
+        return self.kept.get(number) or self._grammar.brackets[self._grammar.sort(self.marked_nodes[number])]
 
     def marks(self, node: Term) -> tuple[Mark, Mark]:
         """Returns the places of a pair of brackets around a node."""
         number = len(self.marked_nodes)
         self.marked_nodes.append(node)
         return Mark(number, True), Mark(number, False)
+
+    def around(self, old: Term, new: Term, edits: Sequence[RopeEdit], there: Optional[tuple[int, int]]) -> list[RopeEdit]:
+        """Returns edits with the places of brackets around an old node, in whose place a new one is. `there` is where it has some."""
+        first, last = span(old)
+        opens, closes = self.marks(new)
+        begin, end = there or (first, last)
+        if there is not None:
+            text = self._layout.text
+            self.kept[opens.number] = Brackets(text[begin:first], text[last:end], None)
+        return [RopeEdit(begin, first, [opens]), *edits, RopeEdit(last, end, [closes])]
 
     # --- old text
 
@@ -85,9 +96,7 @@ class Templates:
         for old, new in zip(origins, chunk):
             found = self.inside.slot(old, new, plain)
             if not found and not plain and self._grammar.has_brackets(new) and not whole_lines:
-                opens, closes = self.marks(old)
-                first, last = span(old)
-                found = [RopeEdit(first, first, [opens]), RopeEdit(last, last, [closes])]
+                found = self.around(old, old, [], None)
             edits += found
         first, last = span(origins[0])[0], span(origins[-1])[1]
         indent = self._layout.indent(first)
