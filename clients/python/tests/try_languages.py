@@ -13,6 +13,7 @@ import zipfile
 
 import grammars
 import layouts
+import try_mixed
 from stratbench import languages, refactor
 from stratbench.languages.language import Fault, Missing
 from stratbench.terms import deep
@@ -117,6 +118,52 @@ def jdk_rules(top, room):
         yield f"java: {strategy} changes {changed} of {len(work)} files of the JDK", "\n".join(wrong[:20])
 
 
+# What Java 21 added.
+LATER = """record P(int x, Object y) {}
+class A {
+    int f(Object o) {
+        if (o instanceof P(int x, P(var y, _)) && old > 1) return x; // one
+        switch (o) {
+            case P(int x, var y) when  old > 0: // two
+                return 1;
+            default:
+        }
+        return switch (o) {
+            case P(int x, int y) when old.f( y ) -> x; // three
+            case String s when !s.isEmpty() -> { yield  old; }
+            case null, default -> 0;
+        };
+    }
+}
+"""
+LATER_RULES = """module later
+rules
+  Rename : Identifier("old") -> Identifier("now")
+  Less : GuardedRule(ls,_,b) -> CaseRule(ls,b)
+"""
+LATER_DIFF = """-        if (o instanceof P(int x, P(var y, _)) && old > 1) return x; // one
++        if (o instanceof P(int x, P(var y, _)) && now > 1) return x; // one
+-            case P(int x, var y) when  old > 0: // two
++            case P(int x, var y) when  now > 0: // two
+-            case P(int x, int y) when old.f( y ) -> x; // three
+-            case String s when !s.isEmpty() -> { yield  old; }
++            case P(int x, int y) when now.f( y ) -> x; // three
++            case String s -> { yield  now; }
+"""
+
+
+def later(top):
+    """What only later compilers read, where the machine has one."""
+    homes = [it for it in sorted(glob.glob("/usr/lib/jvm/*")) if (found := re.search(r"-(\d+)-", it + "-")) and int(found[1]) >= 22 and os.path.exists(f"{it}/bin/java")]
+    if not homes:
+        yield "guards of cases, and patterns of records: this machine has no JDK of 22 or later", ""
+        return
+    room = try_mixed.Room(top, {"later.str": LATER_RULES, "A.java": LATER})
+    status, out, said = room.run("--module", "later=later.str", "--do", "topdown(try(Less)); topdown(try(Rename))", "A.java", JAVA_HOME=homes[-1])
+    changed = "".join(line + "\n" for line in out.decode().splitlines()[2:] if line[0] in "+-")
+    yield "guards of cases, and patterns of records", "" if (status, changed) == (0, LATER_DIFF) else f"{status} {out.decode()} {said}"
+
+
 # A comment, or what looks like one in a string: both are the same before and after.
 COMMENT = re.compile(rb"//[^\n]*|/\*.*?\*/", re.DOTALL)
 
@@ -133,3 +180,4 @@ def tests(top, everything):
             yield from fitting(name, everything, room)
             if name == "java":
                 yield from jdk_rules(top, room)
+                yield from later(top)

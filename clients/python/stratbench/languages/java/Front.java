@@ -257,16 +257,38 @@ public class Front {
         boolean written = it.getType() == null || last(it.getModifiers()) <= first(it.getType()) || first(it.getType()) < 0;
         Object mods = written ? modifiers(it.getModifiers()) : null;
         boolean typed = it.getType() != null && first(it.getType()) >= 0 && last(it.getType()) > first(it.getType()) && !made.declaredUsingVar();
-        boolean afterName = typed && last(it.getType()) > made.pos;
-        if (afterName) throw new Refused(made.pos, "brackets after a name aren't read");
+        String brackets = typed ? bracketsAfter(it) : "";
+        if (!brackets.isEmpty() && kind.equals("Parameter")) return node("ArrayParameter", it, mods, typeBefore(it), it.getName(), brackets);
+        if (!brackets.isEmpty()) return node(kind.equals("ForVariable") ? "ForVariables" : "Variables", it, mods, typeBefore(it), List.of(declarator(it)));
         if (kind.equals("Parameter")) {
-            if (!typed) return made.declaredUsingVar() ? node("Parameter", it, mods, new Node("Identifier", -1, -1, "var"), it.getName()) : node("ImplicitParameter", it, it.getName());
+            if (!typed) return text.substring(Math.max(0, first(it)), made.pos).strip().endsWith("var") ? node("Parameter", it, mods, new Node("Identifier", -1, -1, "var"), it.getName()) : node("ImplicitParameter", it, it.getName());
             if ((made.mods.flags & (1L << 34)) != 0) return node("VariadicParameter", it, mods, ((ArrayTypeTree) it.getType()).getType(), it.getName());
             return node("Parameter", it, mods, it.getType(), it.getName());
         }
         if (kind.equals("Resource")) return typed ? node(kind, it, mods, it.getType(), it.getName(), initializer) : node("InferredResource", it, mods, it.getName(), initializer);
         if (kind.equals("Field")) return node(kind, it, mods, it.getType(), it.getName(), initializer);
         return typed ? node(kind, it, mods, it.getType(), it.getName(), initializer) : node("Inferred" + kind, it, mods, it.getName(), initializer);
+    }
+
+    int place(VariableTree it) { return ((com.sun.tools.javac.tree.JCTree.JCVariableDecl) it).pos; }
+
+    /** The type of a variable as it is written before the name: {@code int a[]} has brackets after that, too. */
+    Tree typeBefore(VariableTree it) {
+        Tree type = it.getType();
+        while (type instanceof ArrayTypeTree && last(type) > place(it)) type = ((ArrayTypeTree) type).getType();
+        return type;
+    }
+
+    String bracketsAfter(VariableTree it) {
+        StringBuilder found = new StringBuilder();
+        for (Tree type = it.getType(); type != typeBefore(it); type = ((ArrayTypeTree) type).getType()) found.append("[]");
+        return found.toString();
+    }
+
+    Node declarator(VariableTree it) {
+        String brackets = bracketsAfter(it);
+        int end = brackets.isEmpty() ? place(it) + it.getName().length() : last(it.getType());
+        return new Node("Declarator", place(it), it.getInitializer() != null ? last(it.getInitializer()) : end, it.getName(), brackets, it.getInitializer());
     }
 
     Node literal(LiteralTree it) {
@@ -312,13 +334,14 @@ public class Front {
     Node branch(CaseTree it) throws Exception {
         boolean rule = it.getCaseKind() == CaseTree.CaseKind.RULE;
         List<?> labels = it.getExpressions();
+        Object guard = null;
         try {
-            Object guard = CaseTree.class.getMethod("getGuard").invoke(it);
-            if (guard != null) throw new Refused(first(it), "guards of cases aren't read");
+            guard = CaseTree.class.getMethod("getGuard").invoke(it);
             labels = (List<?>) CaseTree.class.getMethod("getLabels").invoke(it);
         } catch (NoSuchMethodException older) { /* there are only expressions */ }
         boolean other = labels.isEmpty() || labels.size() == 1 && ((Tree) labels.get(0)).getKind().name().equals("DEFAULT_CASE_LABEL");
         String kind = it.getBody() instanceof ExpressionTree ? "Value" : "Rule";
+        if (guard != null) return rule ? node("Guarded" + kind, it, labels, guard, it.getBody()) : node("GuardedCase", it, labels, guard, statements(it.getStatements()));
         if (rule) return other ? node("Default" + kind, it, it.getBody()) : node("Case" + kind, it, labels, it.getBody());
         return other ? node("Default", it, statements(it.getStatements())) : node("Case", it, labels, statements(it.getStatements()));
     }
@@ -382,13 +405,9 @@ public class Front {
         else if (!run.isEmpty()) {
             List<Object> each = new ArrayList<>();
             VariableTree one = run.get(0);
-            for (VariableTree it : run) {
-                int at = ((com.sun.tools.javac.tree.JCTree) it).pos, name = at + it.getName().length();
-                if (it.getType() != null && last(it.getType()) > at) throw new Refused(at, "brackets after a name aren't read");
-                each.add(new Node("Declarator", at, it.getInitializer() != null ? last(it.getInitializer()) : name, it.getName(), "", it.getInitializer()));
-            }
+            for (VariableTree it : run) each.add(declarator(it));
             String name = kind.equals("ForVariable") ? "ForVariables" : "Variables";
-            found.add(new Node(name, first(one), last(run.get(run.size() - 1)), modifiers(one.getModifiers()), one.getType(), each));
+            found.add(new Node(name, first(one), last(run.get(run.size() - 1)), modifiers(one.getModifiers()), typeBefore(one), each));
         }
         run.clear();
     }
