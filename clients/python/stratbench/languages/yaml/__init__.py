@@ -1,4 +1,4 @@
-"""YAML, with its comments, by PyYAML. Anchors, aliases and tags are refused."""
+"""YAML, with its comments, by PyYAML."""
 
 from __future__ import annotations
 

@@ -3,6 +3,7 @@
 from __future__ import annotations
 
 import importlib
+import re
 from bisect import bisect_right
 from collections.abc import Sequence
 from typing import Any, Final, Union
@@ -13,6 +14,9 @@ from ..front import Parsed
 from ..language import Missing
 
 _MISSING: Final = "YAML needs PyYAML: apt install python3-yaml, or pip install PyYAML"
+# An anchor and a tag before a value, and the blanks and comments after them.
+_PROPERTY: Final = r"(?:&[^\s,\[\]{}]+|!<[^>\s]*>|![^\s,\[\]{}]*)"
+_PROPERTIES: Final = re.compile(rf"({_PROPERTY}(?:[ \t]+{_PROPERTY})?)(?:[ \t]+#[^\n]*|\s)*")
 
 
 class Front:
@@ -87,26 +91,36 @@ class _Reader:
         return Term(head, children, (Term(TUPLE, (Term(first), Term(last))),))
 
     def _value(self, event: Any) -> Term:
-        name, first = type(event).__name__, event.start_mark.index
-        if name == "AliasEvent" or event.anchor is not None:
-            raise _Refused(first, "anchors and aliases aren't read")
-        if event.tag not in (None, "!") or self._text[first : first + 1] == "!" and name != "ScalarEvent":
-            raise _Refused(first, "tags aren't read")
-        if name == "ScalarEvent":
-            return self._scalar(event)
-        return self._mapping(event) if name == "MappingStartEvent" else self._sequence(event)
+        first = event.start_mark.index
+        if type(event).__name__ == "AliasEvent":
+            return self._node("Alias", first, event.end_mark.index, string(event.anchor))
+        found = _PROPERTIES.match(self._text, first) if event.anchor is not None or event.tag is not None or event.implicit is False else None
+        if found is None:
+            return self._bare(event, first)
+        value = self._bare(event, found.end())
+        place = position(value)
+        if place is None:
+            raise _Refused(first, "an anchor or a tag without a value isn't read")
+        head = "PropertiedBlock" if value.head in ("Mapping", "Sequence") else "Propertied"
+        return Term(head, (string(found[1]), value), (Term(TUPLE, (Term(self._byte(first)), Term(place[1]))),))
 
-    def _scalar(self, event: Any) -> Term:
-        first, last = event.start_mark.index, event.end_mark.index
-        if first == last:
+    # A value without its anchor and its tag, which begins at a place.
+    def _bare(self, event: Any, first: int) -> Term:
+        name = type(event).__name__
+        if name == "ScalarEvent":
+            return self._scalar(event, first)
+        return self._mapping(event, first) if name == "MappingStartEvent" else self._sequence(event, first)
+
+    def _scalar(self, event: Any, first: int) -> Term:
+        last = event.end_mark.index
+        if first >= last:
             return Term("Absent")
         if event.style in ("'", '"'):
             return self._node("Quoted", first, last, string(event.value))
         last = first + len(self._text[first:last].rstrip())
         return self._node("Block" if event.style in ("|", ">") else "Plain", first, last, string(_outdented(self._text[first:last])))
 
-    def _mapping(self, event: Any) -> Term:
-        first = event.start_mark.index
+    def _mapping(self, event: Any, first: int) -> Term:
         if event.flow_style and self._text[first] != "{":
             raise _Refused(first, "a pair in a flow sequence isn't read")
         pairs: list[Term] = []
@@ -125,8 +139,7 @@ class _Reader:
             return self._node("FlowMapping", first, following.end_mark.index, items(*pairs))
         return self._around("Mapping", pairs)
 
-    def _sequence(self, event: Any) -> Term:
-        first = event.start_mark.index
+    def _sequence(self, event: Any, first: int) -> Term:
         entries: list[Term] = []
         # the dash of an entry is the first one from the end of the one before on
         at = bisect_right(self._dashes, first - 1)
