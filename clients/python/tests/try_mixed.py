@@ -1,9 +1,12 @@
-"""The command on files of several languages: which are taken, what is said of the others, standard input, encodings, and what is missing."""
+"""The command on files of several languages: which are taken, what is said of the others, standard input, encodings, what is missing, and each
+of its options with each language."""
 
+import json
 import os
 import subprocess
 import sys
 import tempfile
+from typing import NamedTuple
 
 from stratbench import languages
 from stratbench.languages.language import Missing
@@ -18,11 +21,52 @@ rules
 """
 
 
+class Small(NamedTuple):
+    """A language in a few lines: the suffix of its files, rules, a text in which the word `old` is in the first line and a comment in the
+    second one, one from which `Drop` takes a comment in its second line, and one that isn't of the language."""
+
+    suffix: str
+    rules: str
+    text: str
+    comment: str
+    loses: str
+    broken: str
+
+
+RULES = {
+    "javascript": Small(".js", SCRIPT, "old(1); // one\n// two\n", "/* three */", "a();\nf(g(1 /* three */));\n", "f(\n"),
+    "java": Small(
+        ".java",
+        "module java-mine rules Rename : Identifier(\"old\") -> Identifier(\"now\") Drop : MethodInvocation(f,[_|_]) -> MethodInvocation(f,[])",
+        "class A { int a = old; // one\n// two\n}\n",
+        "/* three */",
+        "class A {\n    int a = f(g(1 /* three */));\n}\n",
+        "class A {\n",
+    ),
+    "json": Small(
+        ".json",
+        "module json-mine rules Rename : String(\"old\") -> String(\"now\") Drop : Array([_|_]) -> Array([])",
+        "[\"old\", // one\n // two\n 1]\n",
+        "// three",
+        "{\n  \"a\": [1, // three\n 2]}\n",
+        "[\n",
+    ),
+    "yaml": Small(
+        ".yaml",
+        "module yaml-mine rules Rename : Plain(\"old\") -> Plain(\"now\") Drop : FlowSequence([_|_]) -> FlowSequence([])",
+        "a: old  # one\n# two\n",
+        "# three",
+        "a: 1\nb: [c,  # three\n  d]\n",
+        "a: [\n",
+    ),
+}
+
+
 class Room:
     """A folder in which the command is run, with these files."""
 
-    def __init__(self, top, files):
-        self.top, self._folder = top, tempfile.TemporaryDirectory()
+    def __init__(self, top, files, python=sys.executable):
+        self.top, self.python, self._folder = top, python, tempfile.TemporaryDirectory()
         self.folder = self._folder.name
         for name, contents in files.items():
             os.makedirs(os.path.dirname(f"{self.folder}/{name}"), exist_ok=True)
@@ -30,7 +74,7 @@ class Room:
                 it.write(contents if isinstance(contents, bytes) else contents.encode())
 
     def run(self, *words, given=b"", **more):
-        command = [sys.executable, "-m", "stratbench.refactor", "--modules", f"{self.top}/strategies", *words]
+        command = [self.python, "-m", "stratbench.refactor", "--modules", f"{self.top}/strategies", *words]
         environment = {**os.environ, "PYTHONPATH": f"{self.top}/clients/python", "XDG_STATE_HOME": f"{self.folder}/state", **more}
         ran = subprocess.run(command, cwd=self.folder, env=environment, input=given, capture_output=True)
         return ran.returncode, ran.stdout, ran.stderr.decode()
@@ -106,6 +150,46 @@ def scripts(top):
     yield "a front end that is missing", same((status, out, said.startswith("JavaScript needs node and @babel/parser: apt install")), (2, b"", True))
 
 
+def options(top, name, small):
+    """Each option with a language. It finds the same files changed, and names the same comments, however it is run."""
+    language = languages.named(name)
+    try:
+        language.sources([("a" + small.suffix, small.text.encode())])
+    except Missing as error:
+        yield f"{name}: left out: {error}", str(error) if os.environ.get("CI") == "true" else ""
+        return
+    files = {f"{at}{small.suffix}": small.text for at in range(5)}
+    room = Room(top, {"mine.str": small.rules, "loses" + small.suffix: small.loses, "broken" + small.suffix: small.broken, **files})
+    module = small.rules.split()[1]
+    mine = ("--module", f"{module}=mine.str", "--do")
+    loses, broken = "loses" + small.suffix, "broken" + small.suffix
+    alone = room.run(*mine, "topdown(try(Rename))", *files)
+    yield f"{name}: a run", same((alone[0], alone[1].count(b"+++"), alone[2]), (0, 5, "5 of 5 files would change, 5 places\n"))
+    yield f"{name}: --jobs", same(room.run(*mine, "topdown(try(Rename))", "--jobs", "2", *files), alone)
+    status, out, said = room.run(*mine, "topdown(try(Rename))", "--check", *files)
+    yield f"{name}: --check where something would change", same((status, out, said), (1, *alone[1:]))
+    status, out, said = room.run(*mine, "topdown(try(Rename))", "--check", loses)
+    yield f"{name}: --check where nothing would", same((status, out, said.splitlines()[-1]), (0, b"", "0 of 1 file would change"))
+    status, out, said = room.run(*mine, "topdown(try(Drop))", "--report", "lost.json", loses, broken)
+    got = json.loads(room.has("lost.json"))
+    lost = [{"line": 2, "comment": small.comment}]
+    counts = {"files": 2, "changed": 1, "places": 1, "lost": 1, "kept": 0, "left": 1}
+    yield f"{name}: --report counts", same((status, got["status"], got["written"], got["counts"]), (3, 3, False, counts))
+    of_loses = {"file": loses, "changed": True, "places": [{"line": 2, "rule": "Drop"}], "lost": lost, "kept": [], "left": None}
+    yield f"{name}: --report of a file that changes", same([it for it in got["files"] if it["file"] == loses], [of_loses])
+    [left] = [it for it in got["files"] if it["file"] == broken]
+    yield f"{name}: --report of a file that isn't read", "" if left["left"].startswith(f"{broken}:") and not left["changed"] else f"{left}"
+    status, out, said = room.run(*mine, "topdown(try(Drop))", "--keep-comments", "--report", "kept.json", "--write", loses)
+    [kept] = json.loads(room.has("kept.json"))["files"]
+    yield f"{name}: --keep-comments", same((status, room.has(loses).decode(), kept["kept"], kept["changed"]), (3, small.loses, lost, False))
+    status, out, said = room.run(*mine, "topdown(try(Rename))", "--write", "--report", "written.json", "--jobs", "2", *files)
+    yield f"{name}: --write", same([room.has(it).decode() for it in files], [small.text.replace("old", "now")] * 5)
+    got = json.loads(room.has("written.json"))
+    yield f"{name}: --report after --write", same((status, got["written"], [it["places"] for it in got["files"]]), (0, True, [[{"line": 1, "rule": "Rename"}]] * 5))
+
+
 def tests(top, everything):
     yield from data(top)
     yield from scripts(top)
+    for name, small in RULES.items():
+        yield from options(top, name, small)
