@@ -1,8 +1,9 @@
 // What recast makes of the files that the client changed, by the same rule; and what a parser says of both.
 //
 // Standard input has {rule, files: [{name, before, after, lost}]}, where `after` is null for a file that didn't change. Standard output has
-// how many files recast changed, how many it touched in which it changed nothing, how many of them have the same tree as ours, and what is wrong with ours: files that aren't parsed, and
-// comments that are gone and weren't named.
+// how many files recast changed, how many it touched in which it changed nothing, how many of them have the same tree as ours; the files in
+// which it left out empty statements, those in which it wrote what is new into the line `#!..`, and all others in which it differs; and what is
+// wrong with ours: files that aren't parsed, and comments that are gone and weren't named.
 'use strict'
 const recast = require('recast')
 const babel = require('@babel/parser')
@@ -118,6 +119,9 @@ const RULES = {
 
 // a tree as text, without what isn't of it
 const bare = it => JSON.stringify(it.program, (key, value) => ['start', 'end', 'loc', 'extra', 'raw', 'range', 'leadingComments', 'trailingComments', 'innerComments', 'interpreter'].includes(key) ? undefined : typeof value === 'bigint' ? String(value) : value)
+// the same without empty statements
+const filled = it => JSON.stringify(JSON.parse(bare(it)), (key, value) => Array.isArray(value) ? value.filter(one => !one || one.type !== 'EmptyStatement') : value)
+const isInFirstLine = (before, theirs) => before.startsWith('#!') && theirs.startsWith(before.split('\n')[0]) && theirs.split('\n')[0] !== before.split('\n')[0]
 const words = it => it.trim().replace(/\s+/g, ' ')
 const counted = all => { const found = new Map(); for (const it of all) found.set(it, (found.get(it) || 0) + 1); return found }
 const comments = tree => (tree.comments || []).map(it => words(it.value))
@@ -125,7 +129,7 @@ const comments = tree => (tree.comments || []).map(it => words(it.value))
 let input = ''
 process.stdin.on('data', it => { input += it }).on('end', () => {
   const { rule, files } = JSON.parse(input)
-  const found = { rules: Object.keys(RULES), changed: 0, touched: 0, same: 0, broken: 0, lost: 0, other: [], wrong: [], seconds: 0 }
+  const found = { rules: Object.keys(RULES), changed: 0, touched: 0, same: 0, broken: 0, lost: 0, empty: [], hidden: [], other: [], wrong: [], seconds: 0 }
   for (const { name, before, after, lost } of files) {
     if (after !== null) {
       try {
@@ -148,11 +152,14 @@ process.stdin.on('data', it => { input += it }).on('end', () => {
     try {
       const tree = parse(theirs)
       // recast may write a text anew in which the rule changed nothing
-      if (bare(tree) === bare(parse(before))) { found.touched++; continue }
+      if (bare(tree) === bare(parse(before))) { found.touched++; if (after !== null) (isInFirstLine(before, theirs) ? found.hidden : found.other).push(name); continue }
       found.changed++
       const have = counted(comments(tree))
       for (const [it, count] of counted(comments(parse(before)))) found.lost += Math.max(0, count - (have.get(it) || 0))
-      if (after !== null && bare(tree) === bare(parse(after))) found.same++; else found.other.push(name)
+      const ours = parse(after === null ? before : after)
+      if (bare(tree) === bare(ours)) found.same++
+      else if (filled(tree) === filled(ours)) found.empty.push(name)
+      else found.other.push(name)
     } catch { found.broken++ }
   }
   process.stdout.write(JSON.stringify(found))

@@ -116,9 +116,8 @@ def measured(top, count):
         wrong = [f"{it.name}: {it.left}" for it in outcomes if it.left and "no JavaScript" not in it.left]
         found = peer(rule, work, outcomes)
         wrong += found["wrong"]
-        # recast indents the lines of template literals, too, which changes them: so one file in twenty may differ, and one in any case
-        if rule in found["rules"] and found["same"] < len(changed) - found["broken"] - max(1, len(changed) // 20):
-            wrong += [f"{it}: recast gives another tree" for it in found["other"]]
+        # recast leaves out empty statements, and writes what comes first into the line `#!..`: those files are counted apart
+        wrong += [f"{it}: recast gives another tree" for it in found["other"]]
         yield f"{rule}: {len(changed)} of {len(work)} files change", "\n".join(wrong[:20]), found
 
 
