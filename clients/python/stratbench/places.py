@@ -15,7 +15,7 @@ import re
 from bisect import bisect_left
 from collections.abc import Iterator
 
-from .diagnostics import Diagnostic, Label
+from .diagnostics import Diagnostic, Label, Telling
 
 _STRING = r'"(?:\\.|[^"\\])*"'
 # A line feed before a line that begins in the first column.
@@ -80,8 +80,9 @@ class Command:
         own = min(self.text.own_at(at), len(self.text.own))
         return self.text.own.count("\n", 0, own) + 1, own - self.text.own.rfind("\n", 0, own)
 
-    def explained(self, said: Diagnostic, subject: bool = True) -> tuple[str, tuple[int, int] | None]:
-        """Returns what was said of the command, with the places in the caller's text, and the first of these."""
+    def explained(self, said: Diagnostic, subject: bool = True, others: Telling = lambda _: None) -> tuple[str, tuple[int, int] | None]:
+        """Returns what was said of the command, with the places in the caller's text, and the first of these. `others` says where places
+        are that are elsewhere."""
 
         def own(label: Label) -> tuple[int, int] | None:
             is_here = label.module is None and label.line is not None and label.column is not None
@@ -89,7 +90,7 @@ class Command:
 
         def telling(label: Label) -> str | None:
             there = own(label)
-            return there and f"line {there[0]}, column {there[1]}"
+            return f"line {there[0]}, column {there[1]}" if there else others(label)
 
         found = [there for it in (said.message, *said.notes) for there in map(own, it.labels) if there]
         first = said.first()

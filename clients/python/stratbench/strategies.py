@@ -29,7 +29,11 @@ _OF_ONE: Final = {"not": "not", "where": "where", "test": "where", "all": "all",
 
 
 class NoStrategy(ValueError):
-    """A text that isn't understood here. The workbench says what is wrong with it, if anything is."""
+    """A text that isn't understood here, from this place on. The workbench says what is wrong with it, if anything is."""
+
+    def __init__(self, message: str, place: int = 0) -> None:
+        super().__init__(message)
+        self.place = place
 
 
 class Pattern(NamedTuple):
@@ -72,7 +76,7 @@ Definitions = dict[tuple[str, int, int], list[Definition]]
 
 def strategy(text: str) -> Strategy:
     """Returns the strategy of a text. Raises `NoStrategy`."""
-    reader = _Reader(text)
+    reader = Reader(text)
     found = reader.strategy()
     reader.take("")
     return found
@@ -85,23 +89,26 @@ def pattern(text: str) -> Pattern:
 
 def definitions(text: str) -> Definitions:
     """Returns the definitions of a module. Raises `NoStrategy`."""
-    return _Reader(text).definitions()
+    return Reader(text).definitions()
 
 
-class _Reader:
-    """The tokens of a text, which are taken one after the other. The end is an empty one."""
+class Reader:
+    """The tokens of a text, which are taken one after the other. The end is an empty one. `_spans` are their places."""
 
-    def __init__(self, text: str) -> None:
+    def __init__(self, text: str, token: re.Pattern[str] = _TOKEN) -> None:
         self._tokens: list[tuple[str, str]] = []
+        self._spans: list[tuple[int, int]] = []
         at = 0
         while at < len(text):
-            found = _TOKEN.match(text, at)
+            found = token.match(text, at)
             if found is None:
-                raise NoStrategy(f"no token: {text[at : at + 20]}")
+                raise NoStrategy(f"no token: {text[at : at + 20]}", at)
             if found.lastgroup:
                 self._tokens.append((found.lastgroup, found.group()))
+                self._spans.append(found.span())
             at = found.end()
         self._tokens.append(("end", ""))
+        self._spans.append((at, at))
         self._at = 0
 
     @property
@@ -112,11 +119,15 @@ class _Reader:
     def _kind(self) -> str:
         return self._tokens[self._at][0]
 
+    # What is wrong at the next token, or so many before it.
+    def _wrong(self, message: str, before: int = 0) -> NoStrategy:
+        return NoStrategy(message, self._spans[max(self._at - before, 0)][0])
+
     def take(self, *wanted: str) -> str:
         """Takes a token, one of these if any are given."""
         token = self._next
         if wanted and token not in wanted or not wanted and self._kind == "end":
-            raise NoStrategy(f"{token!r} in place of {wanted}")
+            raise self._wrong(f"`{token}` isn't expected here" if token else "the text ends too early")
         self._at = min(self._at + 1, len(self._tokens) - 1)
         return token
 
@@ -128,7 +139,7 @@ class _Reader:
 
     def _word(self) -> str:
         if self._kind != "word":
-            raise NoStrategy(f"no name: {self._next}")
+            raise self._wrong(f"no name: {self._next}")
         return self.take()
 
     def definitions(self) -> Definitions:
@@ -213,7 +224,7 @@ class _Reader:
             return parts[0] if len(parts) == 1 else Strategy("congruence", TUPLE, parts)
         if kind == "word":
             return self._named(token)
-        raise NoStrategy(f"no strategy begins with {token}")
+        raise self._wrong(f"no strategy begins with {token}", 1)
 
     def _in_brackets(self) -> Strategy:
         self.take("(")
@@ -257,7 +268,7 @@ class _Reader:
             return Strategy("rec", self._word(), (self._in_brackets(),))
         if name in ("then", "else", "end", "where", "prim"):
             if name != "prim":
-                raise NoStrategy(name)
+                raise self._wrong(f"no strategy begins with {name}", 1)
             self.take("(")
             self.take()
             self._terms()
@@ -295,7 +306,7 @@ class _Reader:
         elif token == "[":
             found = self._list_pattern()
         elif kind != "word":
-            raise NoStrategy(f"no pattern begins with {token}")
+            raise self._wrong(f"no pattern begins with {token}", 1)
         elif self._taken("("):
             found = Pattern("constructor", token, self._terms())
         elif self._taken("@"):
