@@ -13,13 +13,15 @@ from typing import Any
 
 from .. import languages
 from ..cluster import Lost, Unreachable
+from ..concrete.text import Fault, Source
 from ..languages.language import Missing
-from . import files, positions
+from . import files, positions, trials
 from .batches import outcomes
 from .report import Left, Progress, Tally, counted, said
 from .runs import NoProgram, check_texts, prepared
 from .task import MOST_STEPS, Task
 from .writing import STOPPING, Stopped, WriteFault, recover, write_all
+from .written import Written, is_for, made_of, own_language, rules_of, with_written
 
 # Files with their contents.
 _Work = list[tuple[str, bytes]]
@@ -71,7 +73,10 @@ def _arguments(words: Sequence[str] | None) -> argparse.Namespace:
     parser.add_argument("--module", action="append", default=[], metavar="NAME=FILE", help="load a module of strategies")
     parser.add_argument("--modules", action="append", default=[], metavar="FOLDER", help="load the modules of a folder, as strategies")
     parser.add_argument("--language", choices=languages.NAMES, help="the language of files whose suffix says none; of folders its files alone")
-    parser.add_argument("--do", metavar="STRATEGY", help="the strategy that is applied to each file's tree")
+    parser.add_argument("--do", metavar="STRATEGY", help="the strategy that is applied to each file's tree, else all rules everywhere")
+    parser.add_argument("--rule", action="append", default=[], metavar="RULE", help="a rule in the language's own syntax: 'BEFORE -> AFTER'")
+    parser.add_argument("--where", metavar="STRATEGY", help="a condition of each --rule")
+    parser.add_argument("--rules", action="append", default=[], metavar="FILE", help="a file of such rules")
     parser.add_argument("--within", type=int, metavar="K", help="the most steps that it may take, else 300 a term, and 1,000,000 at least")
     parser.add_argument("--keep-comments", action="store_true", help="leave places as they are where a comment would be lost")
     where = parser.add_mutually_exclusive_group()
@@ -83,11 +88,16 @@ def _arguments(words: Sequence[str] | None) -> argparse.Namespace:
     how = parser.add_mutually_exclusive_group()
     how.add_argument("--write", action="store_true", help="change the files, all or none")
     how.add_argument("--check", action="store_true", help="end with status 1 where something would change")
+    how.add_argument("--test", action="store_true", help="try the tests in the files of rules, and do nothing else")
+    how.add_argument("--show-module", action="store_true", help="print the modules that are made of rules, and do nothing else")
     how.add_argument("--recover", action="store_true", help="put back what a run left that was killed while it wrote, and do nothing else")
     parser.add_argument("files", nargs="*", metavar="FILES", help="files, folders, or - for standard input")
     found = parser.parse_args(words)
-    if not found.recover and (found.do is None or not found.files):
-        parser.error(f"{'--do' if found.do is None else 'FILES'} is missing")
+    ruled = found.rule or found.rules
+    if (found.test or found.show_module) and not ruled:
+        parser.error("--rule or --rules is missing")
+    if not found.recover and not found.test and not found.show_module and (found.do is None and not ruled or not found.files):
+        parser.error(f"{'FILES' if found.do is not None or ruled else '--do, --rule or --rules'} is missing")
     if found.jobs < 1 or found.within is not None and not 1 <= found.within <= MOST_STEPS:
         parser.error(f"--jobs is at least 1, and --within from 1 to {MOST_STEPS}")
     return found
@@ -98,12 +108,14 @@ def _done(given: argparse.Namespace) -> int:
     if given.recover:
         return 3 if left else 0
     try:
-        task = _task(given)
+        task, written = _task(given), _written_rules(given)
+        if given.show_module:
+            return _show_modules(given, written)
     except ValueError as error:
         print(error, file=sys.stderr)
         return 2
     try:
-        return _refactored(given, task)
+        return _tried(given, task, written) if given.test else _refactored(given, task, written)
     except (Unreachable, NoProgram, Missing) as error:
         print(error, file=sys.stderr)
         return 2
@@ -146,7 +158,51 @@ def _task(given: argparse.Namespace) -> Task:
         except OSError as error:
             raise ValueError(f"--module {word}: {error.strerror}") from None
         names.append(file)
-    return Task(tuple(modules), given.do, given.within, given.program, tuple(names), given.keep_comments, given.profile)
+    return Task(tuple(modules), given.do or "", given.within, given.program, tuple(names), given.keep_comments, given.profile)
+
+
+# The rules that are given in the language's own syntax.
+def _written_rules(given: argparse.Namespace) -> Written:
+    number = len(given.rule) > 1
+    rules = [Source(f"--rule {at}" if number else "--rule", text) for at, text in enumerate(given.rule, 1)]
+    read = []
+    for name in given.rules:
+        try:
+            with open(name, encoding="utf-8") as it:
+                read.append(Source(name, it.read()))
+        except (OSError, UnicodeDecodeError) as error:
+            raise ValueError(f"--rules {name}: {getattr(error, 'strerror', None) or error}") from None
+    return Written(tuple(rules), Source("--where", given.where) if given.where else None, tuple(read))
+
+
+# The language of rules, where no file says it.
+def _language(given: argparse.Namespace) -> str:
+    named = [own_language(it) for it in given.rules]
+    return given.language or next((it for it in named if it is not None), "python")
+
+
+def _show_modules(given: argparse.Namespace, written: Written) -> int:
+    language = _language(given)
+    print(*(it.text for it in made_of(rules_of(written, language), language)), sep="\n", end="")
+    return 0
+
+
+def _tried(given: argparse.Namespace, task: Task, written: Written) -> int:
+    language = _language(given)
+    try:
+        task = with_written(task._replace(language=language), written)
+        if _wrong_texts(task):
+            return 2
+        found = trials.tried(rules_of(written, language), task)
+    except ValueError as error:
+        print(error, file=sys.stderr)
+        return 2
+    for it in found:
+        if it.fault:
+            print(it.fault, file=sys.stderr)
+    failed = sum(1 for it in found if it.fault)
+    print(f"{counted(len(found), 'test')}, {failed or 'none'} failed", file=sys.stderr)
+    return 1 if failed else 0
 
 
 # Where the modules or the strategy are wrong, says why.
@@ -157,11 +213,18 @@ def _wrong_texts(task: Task) -> bool:
     return bool(wrong)
 
 
-# The task in a language: with what its strategy needs, where that is known, and without the modules of other languages.
-def _prepared(given: argparse.Namespace, task: Task) -> tuple[Task, bool]:
-    kept = [at for at, (name, _) in enumerate(task.modules) if _is_for(name, task.language)]
+# The task in a language: with what its strategy needs, where that is known, and without the modules of other languages. Else what is wrong
+# with its rules, if anything is.
+def _prepared(given: argparse.Namespace, task: Task, written: Written) -> tuple[Task, bool, str]:
+    kept = [at for at, (name, _) in enumerate(task.modules) if is_for(name, task.language)]
     names = tuple(task.files[at] for at in kept)
     task = task._replace(modules=tuple(task.modules[at] for at in kept), files=names)
+    try:
+        task = with_written(task, written)
+    except ValueError as error:
+        return task, False, str(error)
+    if not task.strategy:
+        return task, False, f"no rule is for {languages.named(task.language).title}"
     try:
         known = prepared(task)
     except NoProgram:
@@ -169,31 +232,36 @@ def _prepared(given: argparse.Namespace, task: Task) -> tuple[Task, bool]:
         if given.cluster is None:
             raise
         known = task
-    return known or task, known is not None
+    return known or task, known is not None, ""
 
 
-# Whether a module is for a language: one whose name begins with another language's isn't.
-def _is_for(module: str, language: str) -> bool:
-    first = module.partition("-")[0]
-    return first == language or first not in languages.NAMES
+# Says what is wrong with the rules, the modules or the strategy in each language. Returns false where nothing is.
+def _said_wrong(tasks: dict[str, tuple[Task, bool, str]]) -> bool:
+    wrong = False
+    for task, _, fault in tasks.values():
+        if fault:
+            print(fault, file=sys.stderr)
+        wrong = bool(fault) or _wrong_texts(task) or wrong
+    return wrong
 
 
-def _refactored(given: argparse.Namespace, task: Task) -> int:
+def _refactored(given: argparse.Namespace, task: Task, written: Written) -> int:
     contents = list(files.read(files.found(given.files, given.language)))
     read = [(name, it) for name, it in contents if isinstance(it, bytes)]
     groups = files.by_language(read, given.language)
     unknown = groups.pop(None, [])
     unread = [Left(name, f"{name}: {it}") for name, it in contents if isinstance(it, str)]
     unread += [Left(name, f"{name}: its suffix says no language: give --language") for name, _ in unknown]
-    tasks = {language or "": _prepared(given, task._replace(language=language or "")) for language in groups or ({} if unknown else {"python": []})}
-    if not any(known for _, known in tasks.values()) and any([_wrong_texts(it) for it, _ in tasks.values()]):
+    asked = groups or ({} if unknown else {_language(given): []})
+    tasks = {language or "": _prepared(given, task._replace(language=language or ""), written) for language in asked}
+    if not any(known for _, known, _ in tasks.values()) and _said_wrong(tasks):
         return 2
     # a strategy of some languages leaves files of the others alone, where these were found in folders
-    apart = [language for language, (_, known) in tasks.items() if not known and any(known for _, known in tasks.values())]
+    apart = [language for language, (_, known, _) in tasks.items() if not known and any(known for _, known, _ in tasks.values())]
     for name in apart:
         print(f"{languages.named(name).title}: the strategy isn't one for its {counted(len(groups.pop(name)), 'file')}", file=sys.stderr)
     work = [it for group in groups.values() for it in group]
-    first = next((it for language, (it, _) in tasks.items() if language not in apart), task)
+    first = next((it for language, (it, _, _) in tasks.items() if language not in apart), task)
     tally = Tally(unread, first.needs.rule() if first.needs is not None else None)
     for one in tally.unread:
         print(one.why, file=sys.stderr)

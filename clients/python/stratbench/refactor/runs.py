@@ -17,6 +17,7 @@ from ..terms import Shown, Term, deep, exchange, height, items, read, shown
 from . import task as bounds
 from .needs import Needs
 from .task import MOST_LEVELS, MOST_STEPS, Task
+from .traces import Traces
 
 # The budget where none is given, a term of the file, and the least: a traversal with four rules takes some 20 steps a term.
 STEPS_A_TERM: Final = 300
@@ -137,6 +138,7 @@ class Bench:
         self.words = ["--library", f"--max-terms={bounds.MOST_TERMS}", f"--max-steps={MOST_STEPS}"]
         # where the steps of the last previews went
         self.steps: list[tuple[tuple[str, int], ...]] = []
+        self.traces = Traces(task.traces, {file: name for file, (name, _) in zip(task.files, task.modules)})
         for at, (name, text) in enumerate(task.modules):
             file = f"{room}/{at}.str"
             with open(file, "wb") as it:
@@ -193,15 +195,30 @@ class Bench:
         commands = self.commands(trees)
         ran = self.run(_script(commands), trees, ["--explain=json"])
         said = _refusals(ran.said)
-        return [_why(it, said.get(it.line), str(one)) for it, one in zip(commands, refused)], self.warnings(ran.said)
+        return [self.why(it, said.get(it.line), str(one)) for it, one in zip(commands, refused)], self.warnings(ran.said)
 
     def told(self, said: str) -> str:
         """Returns what was said, with what is data as text."""
-        return "\n".join([*filter(None, [others(said).strip()]), *map(_told, parsed(said))])
+        return "\n".join([*filter(None, [others(said).strip()]), *map(self._told, parsed(said))])
 
     def warnings(self, said: str) -> tuple[str, ...]:
         """Returns the warnings in what was said."""
-        return tuple(_told(it) for it in parsed(said) if it.severity == "warning")
+        return tuple(self._told(it) for it in parsed(said) if it.severity == "warning")
+
+    def why(self, command: Command, said: Diagnostic | None, answer: str) -> str:
+        """Returns a refusal, and why."""
+        if said is None:
+            return answer
+        traced = self.traces.told(said, command)
+        if traced is not None:
+            return traced
+        # the command is ours: its word and its name say nothing to whoever gave the strategy
+        why = command.explained(said, subject=False, others=self.traces.line)[0]
+        return f"{answer}: {why}" if said.message.text else answer + why
+
+    # A diagnostic as the program says it in text, or of the text that what it speaks of was made of.
+    def _told(self, it: Diagnostic) -> str:
+        return self.traces.told(it) or f"stratbench: {told(it)}"
 
     def commands(self, trees: Sequence[Shown], strategies: Sequence[str] = ()) -> list[Command]:
         """The previews of the task's strategy, or of these, on these trees."""
@@ -230,11 +247,6 @@ class Ran(NamedTuple):
     said: str
 
 
-# A diagnostic as the program says it in text.
-def _told(it: Diagnostic) -> str:
-    return f"stratbench: {told(it)}"
-
-
 # A line of a preview: the path, and the term that would be there.
 def _replacement(line: bytes) -> tuple[tuple[int, ...], Term]:
     at, _, rest = line.partition(b" ")
@@ -247,15 +259,6 @@ def _replacement(line: bytes) -> tuple[tuple[int, ...], Term]:
 # What was said of refused commands, by the lines of the script.
 def _refusals(said: str) -> dict[int, Diagnostic]:
     return {it.line: it for it in parsed(said) if it.line is not None and it.severity == "refusal"}
-
-
-# A refusal, and why.
-def _why(command: Command, said: Diagnostic | None, answer: str) -> str:
-    if said is None:
-        return answer
-    # the command is ours: its word and its name say nothing to whoever gave the strategy
-    why = command.explained(said, subject=False)[0]
-    return f"{answer}: {why}" if said.message.text else answer + why
 
 
 def prepared(task: Task) -> Task | None:
@@ -284,5 +287,7 @@ def check_texts(task: Task) -> tuple[str, tuple[str, ...]]:
     answer = ran.lines[0].decode(errors="replace")
     if not answer.startswith("refused ") or int(answer.split()[1]) not in _OF_TEXTS:
         return "", warnings
-    why = _why(command, _refusals(ran.said).get(command.line), answer)
-    return f"--do: {why}", warnings
+    said = _refusals(ran.said).get(command.line)
+    why = bench.why(command, said, answer)
+    # what was made of a text has its name
+    return why if said is not None and bench.traces.told(said, command) else f"--do: {why}", warnings

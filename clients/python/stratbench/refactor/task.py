@@ -4,6 +4,7 @@ from __future__ import annotations
 
 from typing import Final, NamedTuple
 
+from ..concrete.text import Made
 from .needs import Needs
 
 # The bounds of the workbench: levels, which are fixed, and what it is started with for terms and steps.
@@ -16,7 +17,8 @@ class Task(NamedTuple):
     """What is done to each file: the modules that are loaded, by name and text, the strategy, and its budget, or none for one that goes
     with the file's size. `files` are the names of the modules' files for what is said of them. `keep_comments` leaves places alone where
     a comment would be lost. `profile` asks where the steps go. `needs` is what the strategy needs of a file, where that is known.
-    `language` is the name of the language of the files."""
+    `language` is the name of the language of the files. `traces` say where modules, by their names, and the strategy, by the empty one, come
+    from, if they were made of texts in a language's own syntax."""
 
     modules: tuple[tuple[str, bytes], ...]
     strategy: str
@@ -27,6 +29,7 @@ class Task(NamedTuple):
     profile: bool = False
     needs: Needs | None = None
     language: str = "python"
+    traces: tuple[tuple[str, Made], ...] = ()
 
 
 class Comment(NamedTuple):
