@@ -1,5 +1,5 @@
-"""Rules in a language's own syntax: what is made of them, what is said of wrong ones, and what they do. What a rule does is in
-tests/concrete: files of rules, whose tests are run, too."""
+"""Rules in a language's own syntax: what is made of them, what is said of wrong ones, and what they do. That is in tests/concrete: files of
+rules, whose tests are run, as are those of strategies/*.rules."""
 
 import os
 import subprocess
@@ -15,7 +15,7 @@ from stratbench.concrete.text import Fault, Source, Span
 from stratbench.languages.language import Missing
 from stratbench.refactor import Task, refactored, trials
 from stratbench.refactor.runs import check_texts
-from stratbench.refactor.written import Written, rules_of, with_written
+from stratbench.refactor.written import Written, is_for, own_language, rules_of, with_written
 
 # A rule, and the definition that is made of it.
 MADE = {
@@ -158,7 +158,18 @@ def tests(top, everything):
         yield f"refused: {text!r}", "" if wrong.startswith(begins) else f"{wrong}\nwanted\n{begins}"
     for name in sorted(os.listdir(f"{top}/clients/python/tests/concrete")):
         yield from of_file(f"{top}/clients/python/tests/concrete/{name}", name.partition(".")[0])
+    for name in sorted(os.listdir(f"{top}/strategies")):
+        if name.endswith(".rules"):
+            yield from of_file(f"{top}/strategies/{name}", own_language(name), list(strategies(top, own_language(name))))
     yield from commands(top)
+
+
+# The modules of strategies for a language, with their texts.
+def strategies(top, language):
+    for name in sorted(os.listdir(f"{top}/strategies")):
+        if name.endswith(".str") and is_for(name, language):
+            with open(f"{top}/strategies/{name}", "rb") as it:
+                yield name[: -len(".str")], it.read()
 
 
 def of_file(path, language, modules=()):

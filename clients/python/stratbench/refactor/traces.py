@@ -28,7 +28,7 @@ class Traces:
         if name is not None:
             made = self._traces.get(name)
             return made.place_of(label.line, label.column) if made is not None else None
-        own = command and command.own_place(label.line, label.column)
+        own = command.own_place(label.line, label.column) if command is not None else None
         made = self._traces.get("")
         return made.place_of(*own) if made is not None and own is not None else None
 
