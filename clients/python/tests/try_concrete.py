@@ -43,10 +43,33 @@ MADE = {
         # what a text has is never made
         "$x - $x -> ${x'1}": "BinOp(x,Sub(),x'2) -> x'1 where where(<same'(|x)> x'2)",
     },
+    "javascript": {
+        "f($x, $*xs) -> $x": "CallExpression(Identifier(\"f\"),False(),[x|xs]) -> x where where(<unstarred'> x)",
+        # a name of a property isn't a variable
+        "$o.$m() -> $m": 'CallExpression(MemberExpression(o,False(),Identifier(m)),False(),[]) -> Identifier(m)',
+        # the letter `$`, in a name, alone, and in a string, a regular expression and a template
+        "$$.ajax(a$b, '$c', /d$/) -> $$el": 'CallExpression(MemberExpression(Identifier("$"),False(),Identifier("ajax")),False(),'
+        '[Identifier("a$b"),StringLiteral(c),RegExpLiteral("d$","")]) -> Identifier("$el") where where(<text\'> c)',
+        "`$ ${$x}` -> $x": 'TemplateLiteral([TemplateElement("$ "),Interpolation(x),TemplateElement("")]) -> x',
+        "$a / $b / $c -> $a": 'BinaryExpression(BinaryExpression(a,"/",b),"/",c) -> a',
+        # types
+        "let $x: $T = $v; -> let $x = $v as $T;": 'VariableDeclaration("let",[VariableDeclarator(TypedIdentifier(x,False(),TSTypeAnnotation(T)),v)]) -> '
+        'VariableDeclaration("let",[VariableDeclarator(Identifier(x),TSAsExpression(v,T))]) where where(<present\'> v)',
+    },
 }
 
 # A rule, and the column and what is said of it, with the line and the sign below it.
 WRONG = {
+    "javascript": {
+        "f( -> 1": (3, 'no JavaScript: Unexpected token, expected ","'),
+        "$(a) -> 1": (1, "`$` begins no metavariable: they are `$x`, `$*xs`, `$**ks`, `$?x`, `$_` and `${p}`, and the letter `$` is written `$$`"),
+        "é + $x -> $x + $y": (16, "`$y` isn't bound: it doesn't stand on the left, nor in a `where`"),
+        "é = ) -> 1": (5, "no JavaScript: Unexpected token"),
+        "f($x); -> g($x": (15, 'no JavaScript: Unexpected token, expected ","'),
+    },
+    "java": {"if ($c) -> 1": (8, "no Java: illegal start of statement")},
+    "json": {'{"a": } -> 1': (7, "no JSON: a value is wanted")},
+    "yaml": {"a: [ -> b: 1": (5, "no YAML: did not find expected node content")},
     "python": {
         "not $x in -> $x": (10, "no Python: invalid syntax"),
         "f($x, 1)(2 -> g": (9, "no Python: '(' was never closed"),
@@ -138,13 +161,24 @@ def differs(got, wanted):
     return "" if got == wanted else f"{got}\nwanted\n{wanted}"
 
 
+# What keeps a language's texts from being read here, or nothing.
+def missing(language):
+    try:
+        languages.named(language).sources([("test" + languages.named(language).suffixes[0], b"")])
+    except Missing as error:
+        return f"left out: {error}"
+    return ""
+
+
 def tests(top, everything):
+    lacking = {it: missing(it) for it in languages.NAMES}
+    yield from ((f"{language}: {why}", "") for language, why in lacking.items() if why)
     for language, rows in MADE.items():
-        for text, want in rows.items():
+        for text, want in () if lacking[language] else rows.items():
             got = str(compile_rule(rule(text, language), adapter_of(language)).text)
             yield f"made of {text!r}", differs(got, f"  Rule1 : {want}")
     for language, rows in WRONG.items():
-        for text, (column, message) in rows.items():
+        for text, (column, message) in () if lacking[language] else rows.items():
             yield f"wrong: {text!r}", differs(fault(lambda: compile_rule(rule(text, language), adapter_of(language))), said(text, column, message))
     python = adapter_of("python")
     yield "a module with quotations", differs(str(in_module(Source("m", MODULE), python)), PLAIN)
@@ -156,11 +190,12 @@ def tests(top, everything):
         task = Task((), "", language="python")
         wrong, _ = check_texts(with_written(task, Written((Source("--rule", text),), where and Source("--where", where))))
         yield f"refused: {text!r}", "" if wrong.startswith(begins) else f"{wrong}\nwanted\n{begins}"
-    for name in sorted(os.listdir(f"{top}/clients/python/tests/concrete")):
-        yield from of_file(f"{top}/clients/python/tests/concrete/{name}", name.partition(".")[0])
-    for name in sorted(os.listdir(f"{top}/strategies")):
-        if name.endswith(".rules"):
-            yield from of_file(f"{top}/strategies/{name}", own_language(name), list(strategies(top, own_language(name))))
+    files = [f"{top}/{folder}/{it}" for folder in ("clients/python/tests/concrete", "strategies") for it in sorted(os.listdir(f"{top}/{folder}"))]
+    for path in files:
+        if path.endswith(".rules") and not lacking[own_language(path)]:
+            # those of the tests have names that modules have, too
+            loaded = strategies(top, own_language(path)) if "/strategies/" in path else ()
+            yield from of_file(path, own_language(path), list(loaded))
     yield from commands(top)
 
 
@@ -172,13 +207,8 @@ def strategies(top, language):
                 yield name[: -len(".str")], it.read()
 
 
-def of_file(path, language, modules=()):
+def of_file(path, language, modules):
     """Runs the tests of a file of rules. Yields each."""
-    try:
-        languages.named(language).sources([("test" + languages.named(language).suffixes[0], b"")])
-    except Missing as error:
-        yield f"{os.path.basename(path)}: left out: {error}", ""
-        return
     with open(path, encoding="utf-8") as it:
         written = Written(files=(Source(os.path.basename(path), it.read()),))
     task = with_written(Task(tuple(modules), "", language=language, files=tuple(name for name, _ in modules)), written)

@@ -39,17 +39,18 @@ class Mark(NamedTuple):
     spans: tuple[Span, ...] = ()
 
 
-def _plain(mark: Mark, word: str) -> str:
+def _plain(mark: Mark, word: str, before: str, after: str) -> str:
     return word
 
 
 class Way(NamedTuple):
     """How a language hides metavariables: what a piece of its text is that has none, as a comment or a string; the parts of such pieces that
-    are as outside, by how the piece begins; what stands for a mark, if not the word alone; and whether `$` is a letter of its names."""
+    are as outside, by how the piece begins; what stands for a mark between the texts before and after it, if not the word alone; and whether
+    `$` is a letter of its names."""
 
     opaque: str
     inner: tuple[tuple[str, str], ...] = ()
-    word: Callable[[Mark, str], str] = _plain
+    word: Callable[[Mark, str, str, str], str] = _plain
     dollars: bool = False
 
 
@@ -120,9 +121,10 @@ class Hidden:
         self.marks.append(mark)
         return f"{self._prefix}{len(self.marks) - 1}_"
 
-    def _hide(self, mark: Mark) -> None:
+    # Puts a word for a mark that ends at a place.
+    def _hide(self, mark: Mark, end: int) -> None:
         word = self._mark(mark)
-        self._put(self._way.word(mark, word), mark.at.place)
+        self._put(self._way.word(mark, word, "".join(self._letters), self.source.text[end : self.span.last]), mark.at.place)
 
     def _take(self, first: int, last: int) -> None:
         text, at = self.source.text, first
@@ -135,11 +137,11 @@ class Hidden:
                 at = self._take_dollar(at, last)
             elif text.startswith("<...", at):
                 end = self._closing(at, last, "<...", "...>")
-                self._hide(Mark("inside", At(self.source, at), spans=(Span(self.source, at + 4, end - 4).stripped(),)))
+                self._hide(Mark("inside", At(self.source, at), spans=(Span(self.source, at + 4, end - 4).stripped(),)), end)
                 at = end
             elif text.startswith("\\(", at):
                 end = self._closing(at, last, "\\(", "\\)")
-                self._hide(Mark("either", At(self.source, at), spans=tuple(self._branches(at + 2, end - 2))))
+                self._hide(Mark("either", At(self.source, at), spans=tuple(self._branches(at + 2, end - 2))), end)
                 at = end
             else:
                 self._put(text[at], at, own=True)
@@ -150,11 +152,11 @@ class Hidden:
         found = _META.match(text, at, last)
         if found:
             stars, name = found["stars"], found["name"]
-            self._hide(Mark("many" if "*" in stars else "one", At(self.source, at), name, stars))
+            self._hide(Mark("many" if "*" in stars else "one", At(self.source, at), name, stars), found.end())
             return found.end()
         if text.startswith("${", at):
             end = self._closing(at, last, "{", "}", at + 1)
-            self._hide(Mark("raw", At(self.source, at + 2), spans=(Span(self.source, at + 2, end - 1),)))
+            self._hide(Mark("raw", At(self.source, at + 2), spans=(Span(self.source, at + 2, end - 1),)), end)
             return end
         if self._way.dollars and text.startswith("$$", at):
             rest = re.compile(r"[\w$]*").match(text, at + 2, last)

@@ -92,36 +92,37 @@ _ALONE: Final = re.compile(r"^->[ \t]*$\n?", re.MULTILINE)
 
 def read_rules(source: Source, adapter: Adapter) -> list[Rule]:
     """Returns the rules of a file. Raises `Fault`."""
-    # the places stay those of the file
-    blank = _COMMENT.sub(lambda it: " " * len(it[0]), source.text)
+    # blanks in the place of comments, so that the places stay those of the file
+    source = source._replace(text=_COMMENT.sub(lambda it: " " * len(it[0]), source.text))
     found: list[Rule] = []
-    for number, (name, first, last) in enumerate(_entries(source, blank), 1):
-        if blank[first:last].strip():
-            found.append(_entry(name or f"Rule{number}", source, blank, first, last, adapter))
+    for number, (name, first, last) in enumerate(_entries(source), 1):
+        if source.text[first:last].strip():
+            found.append(_entry(name or f"Rule{number}", Span(source, first, last), adapter))
     return found
 
 
 # The names of the entries, and where each begins and ends.
-def _entries(source: Source, blank: str) -> Iterator[tuple[str, int, int]]:
-    named = list(_NAMED.finditer(blank))
+def _entries(source: Source) -> Iterator[tuple[str, int, int]]:
+    text = source.text
+    named = list(_NAMED.finditer(text))
     if not named:
-        for it in _PARAGRAPH.finditer(blank):
+        for it in _PARAGRAPH.finditer(text):
             yield "", it.start(), it.end()
         return
-    if blank[: named[0].start()].strip():
-        place = len(blank) - len(blank.lstrip())
-        raise Fault("a line `rule NAME` begins each rule of a file in which one has a name", source, place)
-    for it, end in zip(named, [*(it.start() for it in named[1:]), len(blank)]):
+    if text[: named[0].start()].strip():
+        raise Fault("a line `rule NAME` begins each rule of a file in which one has a name", source, len(text) - len(text.lstrip()))
+    for it, end in zip(named, [*(it.start() for it in named[1:]), len(text)]):
         name = it["name"].strip()
         if not _NAME.fullmatch(name):
             raise Fault("a rule's name is a name of strategies: letters, digits, `_` and `-`", source, it.start("name"))
         yield name, it.end(), end
 
 
-def _entry(name: str, source: Source, blank: str, first: int, last: int, adapter: Adapter) -> Rule:
-    words = list(_WORDS.finditer(blank, first, last))
+def _entry(name: str, span: Span, adapter: Adapter) -> Rule:
+    source, first, last = span
+    words = list(_WORDS.finditer(source.text, first, last))
     begins = words[0].start() if words else last
-    alone = _ALONE.search(blank, first, begins)
+    alone = _ALONE.search(source.text, first, begins)
     if alone:
         found = Rule(name, _lines(source, first, alone.start()), _lines(source, alone.end(), begins))
         fault = _fault(found, adapter)
@@ -136,7 +137,7 @@ def _entry(name: str, source: Source, blank: str, first: int, last: int, adapter
         elif it["word"] == "needs":
             found = found._replace(needs=(*found.needs, text.stripped()))
         else:
-            found = found._replace(tests=(*found.tests, _test(it["test"], text, blank, adapter)))
+            found = found._replace(tests=(*found.tests, _test(it["test"], text, adapter)))
     return found
 
 
@@ -147,13 +148,13 @@ def _lines(source: Source, first: int, last: int) -> Span:
     return Span(source, first, first + len(source.text[first:last].rstrip()))
 
 
-def _test(word: str, span: Span, blank: str, adapter: Adapter) -> Test:
+def _test(word: str, span: Span, adapter: Adapter) -> Test:
     if word == "stays":
         return Test(_lines(span.source, span.first, span.last), None)
-    alone = re.compile(r"^=>[ \t]*$\n?", re.MULTILINE).search(blank, span.first, span.last)
+    alone = re.compile(r"^=>[ \t]*$\n?", re.MULTILINE).search(span.source.text, span.first, span.last)
     if alone:
         return Test(_lines(span.source, span.first, alone.start()), _lines(span.source, alone.end(), span.last))
-    arrows = list(re.compile(r"\s+=>(?:[ \t]+|$)", re.MULTILINE).finditer(blank, span.first, span.last))
+    arrows = list(re.compile(r"\s+=>(?:[ \t]+|$)", re.MULTILINE).finditer(span.source.text, span.first, span.last))
     for it in arrows:
         found = Test(Span(span.source, span.first, it.start()), Span(span.source, it.end(), span.last).stripped())
         # a language may have such arrows

@@ -59,7 +59,8 @@ def _nothing(reading: Reading, term: Term) -> Optional[Pattern]:
 @dataclass(frozen=True)
 class Tables:
     """What is to be known of a language's trees: the carriers; the fields of each constructor; the guards of what stands in a field, and the
-    form of a string in it; which constructors and fields no text shows, these as what they are built as; the kind of text that has a form."""
+    form of a string in it; which constructors and fields no text shows, these as what they are built as; the kind of text that has a form; and
+    whether a node in a field is a word, so that a metavariable stands for its string alone."""
 
     carriers: Mapping[str, tuple[Carrier, ...]]
     fields: Callable[[str], Sequence[Field]]
@@ -69,6 +70,7 @@ class Tables:
     unseen_fields: Mapping[tuple[str, str], Pattern] = field(default_factory=dict)
     kinds: Mapping[str, str] = field(default_factory=dict)
     special: Special = _nothing
+    is_word: Callable[[Term, str], bool] = lambda parent, field: False
 
 
 class Reading:
@@ -96,10 +98,13 @@ class Reading:
             return Items(tuple(self.node(it, guards, forms) for it in term.children))
         if name in self.tables.unseen:
             return Unseen(Apply(name))
-        return Apply(name, tuple(self.field(name, it, child) for it, child in zip(self.tables.fields(name), term.children)))
+        return Apply(name, tuple(self.field(term, it, child) for it, child in zip(self.tables.fields(name), term.children)))
 
-    def field(self, constructor: str, field: Field, child: Term) -> Pattern:
-        """Returns the pattern of what stands in a field."""
+    def field(self, parent: Term, field: Field, child: Term) -> Pattern:
+        """Returns the pattern of what stands in a field of a term."""
+        constructor = str(parent.head)
+        if isinstance(child.head, str) and len(child.children) == 1 and self.tables.is_word(parent, field.name):
+            return Apply(child.head, (self.node(child.children[0], (), (child.head, "")),))
         unseen = self.tables.unseen_fields.get((constructor, field.name))
         if unseen is not None:
             return Unseen(unseen)

@@ -20,7 +20,7 @@ from .source import parse, to_term
 _QUOTES: Final = r'"""(?:\\.|.)*?"""' + r"|'''(?:\\.|.)*?'''" + r'|"(?:\\.|[^"\\\n])*"' + r"|'(?:\\.|[^'\\\n])*'"
 # In the braces of strings with fields it is as outside.
 _FIELDS: Final = ((r"(?i)r?fr?['\"]", r"\{[^{}]*\}"),)
-_WAY: Final = Way(rf"\#[^\n]*|(?:\b[rRbBuUfF]{{1,2}})?(?:{_QUOTES})", _FIELDS, lambda mark, word: f"**{word}" if mark.stars == "**" else word)
+_WAY: Final = Way(rf"\#[^\n]*|(?:\b[rRbBuUfF]{{1,2}})?(?:{_QUOTES})", _FIELDS, lambda mark, word, *_: f"**{word}" if mark.stars == "**" else word)
 
 # The kinds of texts.
 EXPRESSION, STATEMENT, STATEMENTS = "an expression", "a statement", "statements"
@@ -77,7 +77,7 @@ def _special(reading: Reading, term: Term) -> Optional[Pattern]:
         many = isinstance(values, Items) and any(isinstance(it, Hole) and it.many for it in values.parts)
         return found._replace(finish="bool-op'") if many else found
     if term.head in ("AugAssign", "AnnAssign"):
-        parts = [reading.field(str(term.head), field, child) for field, child in zip(_fields(str(term.head)), term.children)]
+        parts = [reading.field(term, field, child) for field, child in zip(_fields(str(term.head)), term.children)]
         if isinstance(parts[0], Hole):
             parts[0] = parts[0]._replace(form="one target")
         return Apply(str(term.head), tuple(parts))
