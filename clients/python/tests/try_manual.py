@@ -21,11 +21,13 @@ from terminals import CONTROL, Terminal, Unlike, surroundings
 def tests(top, everything):
     yield from commands(top, "python.md")
     yield from commands(top, "another-language.md")
+    yield from commands(top, "rules.md")
     try:
         languages.named("javascript").sources([("a.js", b"")])
         yield from commands(top, "languages.md")
+        yield from commands(top, "coming-from.md")
     except Missing as error:
-        yield f"docs/manual/languages.md: left out: {error}", ""
+        yield f"docs/manual/languages.md and coming-from.md: left out: {error}", ""
     with open(f"{top}/docs/manual/shell.md") as it:
         page = it.read()
     sessions = re.findall(r"^```\n(> .*?)^```$", page, re.MULTILINE | re.DOTALL)
