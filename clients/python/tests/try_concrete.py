@@ -251,6 +251,7 @@ r.rules: line 5, column 8: a test of `Negated` failed: `Negated` makes this of i
     a not in b
 3 tests, 2 failed
 """
+QUOTED = "module m\nrules\n  A : `$x in $y` -> `f($x)` where <nosuch> x\n"
 SOURCE = "import os\n\ntry: f()\nexcept E: pass\nx = not a in b\n"
 # Words of the command, and its status, with what it prints, and what is among what it says.
 COMMANDS = [
@@ -260,6 +261,10 @@ COMMANDS = [
     (["--rules", "r.rules", "--modules", "STRATEGIES", "b.py"], 0, "+x = a not in b\n", "1 of 1 file would change, 1 place"),
     (["--rules", "r.rules", "--do", "bottomup(try(Negated))", "a.py"], 2, "", "refused 11 unknown add-import 0 1"),
     (["--do", r"bottomup(try(\ `not $x` -> `f($x)` \))", "a.py"], 0, "+x = f(a in b)\n", ""),
+    (["--do", r"bottomup(try(\ `not $x` -> `f($x)` where <nosuch> x \))", "a.py"], 2, "", "--do: line 1, column 43: refused 11 unknown nosuch 0 0"),
+    (["--module", "m=m.str", "--do", "A", "a.py"], 2, "", "m.str: line 3, column 36: refused 11 unknown nosuch 0 0: in `A` of the module `m`, line 3, column 36\n"
+     "      A : `$x in $y` -> `f($x)` where <nosuch> x\n"),
+    (["--rule", "not $x -> $x where fail", "--do", "sometd(Rule1)", "b.py"], 3, "", "in `Rule1` of the module `made-rules`, line 1 of its text"),
     (["--rules", "r.rules", "--modules", "STRATEGIES", "--test"], 1, "", FAILED),
     (["--rule", "$x + 1 -> 1", "--show-module"], 0, "module made-rules\nrules\n  Rule1 : BinOp(x,Add(),Constant(1,_)) -> Constant(1,None())\n"
      "strategies\n  all-rules' = bottomup(try(Rule1))\n", ""),
@@ -272,7 +277,7 @@ COMMANDS = [
 
 def commands(top):
     with tempfile.TemporaryDirectory() as folder:
-        for name, text in (("a.py", SOURCE), ("b.py", "x = not a in b\n"), ("r.rules", RULES)):
+        for name, text in (("a.py", SOURCE), ("b.py", "x = not a in b\n"), ("r.rules", RULES), ("m.str", QUOTED)):
             with open(f"{folder}/{name}", "w") as it:
                 it.write(text)
         environment = {**os.environ, "PYTHONPATH": f"{top}/clients/python", "XDG_STATE_HOME": f"{folder}/state"}

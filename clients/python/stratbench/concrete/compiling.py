@@ -8,7 +8,7 @@ from typing import Final, NamedTuple
 
 from .adapter import Adapter
 from .pattern import Apply, Items, settled
-from .quotations import WORD, in_strategy, kind_of_both
+from .quotations import WORD, in_strategy, kind_of_both, raw_names
 from .rules import Rule
 from .text import Made, put
 from .writing import Bound, Building, Condition, Matching, Search, conjunction
@@ -45,7 +45,7 @@ def compile_rule(rule: Rule, adapter: Adapter) -> Compiled:
     if isinstance(left, Items) and not left.parts:
         raise rule.left.fault("nothing stands on the left")
     words = frozenset(word for it in (rule.left, rule.right, *rule.where) for word in WORD.findall(it.text))
-    bound = Bound(words=words)
+    bound = Bound(others=frozenset(raw_names(left)), words=words)
     matching, building = Matching(bound, adapter), Building(bound, adapter)
     before = matching.text(left)
     conditions: list[Condition] = list(matching.conditions)

@@ -15,7 +15,7 @@ congruence, whose holes are strategies.
 from __future__ import annotations
 
 import re
-from collections.abc import Callable, Iterable, Mapping
+from collections.abc import Callable, Iterable, Iterator, Mapping
 from typing import Final, NamedTuple, Optional, TypeVar
 
 from ..strategies import Definition, NoStrategy, Pattern as Given, Reader, Strategy
@@ -96,6 +96,8 @@ class _Reader(Reader):
         self._matched_quotes: set[int] = set()
         self._built: list[int] = []
         self._parameters: tuple[str, ...] = ()
+        # what the left side of the rule around binds
+        self._around: Mapping[str, list[Form]] = {}
         self._words = frozenset(WORD.findall(span.source.text))
 
     # -- a text
@@ -123,8 +125,11 @@ class _Reader(Reader):
         self._check_built()
         for at, (kind, text) in enumerate(self._tokens):
             if kind == "word" and text.startswith("$"):
-                first = self._spans[at][0]
-                self._edits.append((first, first + len(text) - len(text.lstrip("$*?")), Made()))
+                (first, last), name = self._spans[at], self._name(at)
+                begins = last - len(name)
+                self._edits.append((first, begins, Made()))
+                # the variable of a name that is a word of strategies is another
+                self._edits.append((last, last, Made.of(variable(name)[len(name) :])))
         return Read(self._edited(), frozenset(self._matched))
 
     def _without_dollars(self) -> Made:
@@ -135,7 +140,8 @@ class _Reader(Reader):
     def _check_built(self) -> None:
         if self._outer is None:
             return
-        known = {it.variable for forms in self._outer.variables.values() for it in forms} | set(self._outer.variables) | self._matched
+        known = {it.variable for forms in self._outer.variables.values() for it in forms}
+        known |= self._outer.variables.keys() | self._outer.others | self._matched
         for at in self._built:
             name = self._name(at)
             if name not in known:
@@ -212,11 +218,11 @@ class _Reader(Reader):
         del self._quotes[quotes:], self._variables[variables:]
         return found
 
-    def _new_bound(self, more: Mapping[str, list[Form]] = {}) -> Bound:
+    def _new_bound(self) -> Bound:
         outer = {it: [Form(it, "")] for it in self._parameters}
         if self._outer is not None:
             outer.update({name: [Form(forms[0].variable, "")] for name, forms in self._outer.variables.items() if forms})
-        outer.update({name: [Form(forms[0].variable, "")] for name, forms in more.items() if forms})
+        outer.update({name: [Form(forms[0].variable, "")] for name, forms in self._around.items() if forms})
         return Bound(outer, others=frozenset(self._matched), words=self._words | (self._outer.words if self._outer else frozenset()))
 
     def _replace(self, at: int, write: Callable[[Pattern], Made], pattern: Optional[Pattern] = None) -> None:
@@ -231,7 +237,7 @@ class _Reader(Reader):
     def _match(self, quotes: Iterable[int]) -> Made:
         found: list[Condition] = []
         for at in quotes:
-            one = Matching(self._new_bound(self._around), self._adapter)
+            one = Matching(self._new_bound(), self._adapter)
             self._replace(at, one.text)
             found += one.conditions
         return conjunction(found)
@@ -239,13 +245,10 @@ class _Reader(Reader):
     def _build(self, quotes: Iterable[int]) -> Made:
         found: list[Condition] = []
         for at in quotes:
-            one = Building(self._new_bound(self._around), self._adapter)
+            one = Building(self._new_bound(), self._adapter)
             self._replace(at, one.text)
             found += one.conditions
         return conjunction(found)
-
-    # What the left side of the rule around binds.
-    _around: Mapping[str, list[Form]] = {}
 
     # -- strategies
 
@@ -313,7 +316,7 @@ class _Reader(Reader):
         rights, names = self._taken_since(quotes, variables)
         self._built += names
         end = self._end
-        bound = self._new_bound(self._around)
+        bound = self._new_bound()
         matching, building = Matching(bound, self._adapter), Building(bound, self._adapter)
         one = two = None
         if not self._first:
@@ -372,10 +375,17 @@ def _placed(made: Made, span: Span) -> Made:
 
 
 # The names that a pattern binds: its holes, and those in patterns of Stratego.
-def _names(pattern: Pattern) -> Iterable[str]:
-    if isinstance(pattern, Raw):
-        yield from WORD.findall(pattern.at.source.text[pattern.at.place : pattern.last])
-    elif isinstance(pattern, Hole):
+def _names(pattern: Pattern) -> Iterator[str]:
+    if isinstance(pattern, Hole):
         yield variable(pattern.name)
+    yield from raw_names(pattern)
     for it in children(pattern):
         yield from _names(it)
+
+
+def raw_names(pattern: Pattern) -> Iterator[str]:
+    """Yields the names in patterns of Stratego in a pattern."""
+    if isinstance(pattern, Raw):
+        yield from WORD.findall(pattern.at.source.text[pattern.at.place : pattern.last])
+    for it in children(pattern):
+        yield from raw_names(it)
