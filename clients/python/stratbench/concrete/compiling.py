@@ -79,8 +79,8 @@ def compiled(rules: Sequence[Rule], adapter: Adapter, name: str = MODULE) -> lis
     """Returns modules with the definitions of the rules, and with `DRIVER`, which applies them all, the first that matches, to each node of
     a tree, children first; and then those that need an import. Raises `Fault`."""
     groups: dict[str, list[Compiled]] = {}
-    for it in rules:
-        groups.setdefault(it.name, []).append(compile_rule(it, adapter))
+    for rule in rules:
+        groups.setdefault(rule.name, []).append(compile_rule(rule, adapter))
     for one in groups.values():
         for it in one:
             if it.of_list != one[0].of_list:

@@ -3,6 +3,7 @@
 from __future__ import annotations
 
 from collections.abc import Callable, Iterable, Iterator, Sequence
+from dataclasses import dataclass, replace
 from typing import NamedTuple, Union
 
 from .text import Source
@@ -44,7 +45,8 @@ class Leaf(NamedTuple):
     text: str
 
 
-class Apply(NamedTuple):
+@dataclass(frozen=True)
+class Apply:
     """A constructor. `finish` is a strategy that puts right what is built of lists of unknown length."""
 
     name: str
@@ -52,19 +54,22 @@ class Apply(NamedTuple):
     finish: str = ""
 
 
-class Items(NamedTuple):
+@dataclass(frozen=True)
+class Items:
     """A list, with any holes for many elements."""
 
     parts: tuple[Pattern, ...] = ()
 
 
-class Unseen(NamedTuple):
+@dataclass(frozen=True)
+class Unseen:
     """What the syntax doesn't show, as whether a name is read or written: matches anything, and is built as this."""
 
     built: Pattern
 
 
-class Inside(NamedTuple):
+@dataclass(frozen=True)
+class Inside:
     """A pattern that stands somewhere in a term."""
 
     pattern: Pattern
@@ -72,7 +77,8 @@ class Inside(NamedTuple):
     guards: tuple[str, ...] = ()
 
 
-class Either(NamedTuple):
+@dataclass(frozen=True)
+class Either:
     """One of some patterns, the first that matches."""
 
     patterns: tuple[Pattern, ...]
@@ -105,10 +111,10 @@ def mapped(pattern: Pattern, of: Callable[[Hole], Pattern]) -> Pattern:
     if isinstance(pattern, Hole):
         return of(pattern)
     if isinstance(pattern, (Apply, Items)):
-        return pattern._replace(parts=tuple(mapped(it, of) for it in pattern.parts))
+        return replace(pattern, parts=tuple(mapped(it, of) for it in pattern.parts))
     if isinstance(pattern, Either):
-        return pattern._replace(patterns=tuple(mapped(it, of) for it in pattern.patterns))
-    return pattern._replace(pattern=mapped(pattern.pattern, of)) if isinstance(pattern, Inside) else pattern
+        return replace(pattern, patterns=tuple(mapped(it, of) for it in pattern.patterns))
+    return replace(pattern, pattern=mapped(pattern.pattern, of)) if isinstance(pattern, Inside) else pattern
 
 
 def settled(

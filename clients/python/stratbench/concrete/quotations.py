@@ -148,7 +148,10 @@ class _Reader(Reader):
                 raise self._fault(at, f"`{self._tokens[at][1]}` isn't bound: it doesn't stand on the left, and no pattern before binds it")
 
     def _definition(self) -> tuple[str, Definition]:
-        return self._twice(super()._definition, lambda found: found[1].terms)
+        def terms(found: tuple[str, Definition]) -> tuple[str, ...]:
+            return found[1].terms
+
+        return self._twice(super()._definition, terms)
 
     # Reads something twice, and compiles the quotations of it the second time.
     def _twice(self, read: Callable[[], _Found], parameters: Callable[[_Found], tuple[str, ...]]) -> _Found:

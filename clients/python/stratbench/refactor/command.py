@@ -178,7 +178,7 @@ def _written_rules(given: argparse.Namespace) -> Written:
 # The language of rules, where no file says it.
 def _language(given: argparse.Namespace) -> str:
     named = [own_language(it) for it in given.rules]
-    return given.language or next((it for it in named if it is not None), "python")
+    return str(given.language or next((it for it in named if it is not None), "python"))
 
 
 def _show_modules(given: argparse.Namespace, written: Written) -> int:
@@ -276,15 +276,15 @@ def _refactored(given: argparse.Namespace, task: Task, written: Written) -> int:
                 own = tasks[language or ""][0]
                 for line in (*check_texts(own)[1], *positions.warning(group, own)):
                     print(line, file=sys.stderr)
-    written = given.write and _written(work, tally)
-    status = 3 if tally.left or tally.comments(left=True) or given.write and not written else 1 if given.check and tally.changed else 0
+    wrote = bool(given.write) and _written(work, tally)
+    status = 3 if tally.left or tally.comments(left=True) or given.write and not wrote else 1 if given.check and tally.changed else 0
     if given.profile:
         print(tally.profile(), file=sys.stderr)
-    print(tally.summary(written), file=sys.stderr)
+    print(tally.summary(wrote), file=sys.stderr)
     if given.report is not None:
         try:
             with open(given.report, "w") as out:
-                out.write(tally.report(status, written))
+                out.write(tally.report(status, wrote))
         except OSError as error:
             print(f"--report {given.report}: {error.strerror}", file=sys.stderr)
             return 3

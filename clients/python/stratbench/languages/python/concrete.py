@@ -5,6 +5,7 @@ from __future__ import annotations
 import ast
 import re
 from collections.abc import Mapping
+from dataclasses import replace
 from functools import lru_cache
 from typing import Final, Optional
 
@@ -75,7 +76,7 @@ def _special(reading: Reading, term: Term) -> Optional[Pattern]:
         found = Apply("BoolOp", (reading.node(term.children[0]), reading.node(term.children[1])))
         values = found.parts[1]
         many = isinstance(values, Items) and any(isinstance(it, Hole) and it.many for it in values.parts)
-        return found._replace(finish="bool-op'") if many else found
+        return replace(found, finish="bool-op'") if many else found
     if term.head in ("AugAssign", "AnnAssign"):
         parts = [reading.field(term, field, child) for field, child in zip(_fields(str(term.head)), term.children)]
         if isinstance(parts[0], Hole):
@@ -213,7 +214,7 @@ def _has_context(pattern: Pattern) -> bool:
 
 def _with_context(pattern: Pattern, context: Pattern) -> Pattern:
     assert isinstance(pattern, Apply)
-    return pattern._replace(parts=(*pattern.parts[:-1], context))
+    return replace(pattern, parts=(*pattern.parts[:-1], context))
 
 
 ADAPTER: Final = _Python()
