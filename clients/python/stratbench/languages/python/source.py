@@ -80,6 +80,9 @@ def from_term(term: Term) -> ast.AST:
     >>> from_term(read('Return(7)'))
     Traceback (most recent call last):
     stratbench.terms.NoTerm: no expr in the field value of Return: 7
+    >>> from_term(read('Call(Name("f",Load),[],[keyword("a",Constant(1,None)),keyword("a",Constant(2,None))])'))
+    Traceback (most recent call last):
+    stratbench.terms.NoTerm: a Call has the keyword argument a twice
     """
     try:
         return _from_term(term)
@@ -107,9 +110,20 @@ def _from_term(term: Term) -> ast.AST:
         if field.name not in kind._fields:
             if values.pop(field.name):
                 raise NoTerm(f"{known.name} has no {field.name} in this version of Python")
+    if "keywords" in values:
+        _no_repetition(known, term)
     made = kind(**values)
     assert isinstance(made, ast.AST)
     return made
+
+
+# Python's compiler refuses a keyword argument that comes twice; its parser doesn't.
+def _no_repetition(known: Constructor, term: Term) -> None:
+    keywords = term.children[[field.name for field in known.fields].index("keywords")].children
+    names = [it.children[0].head for it in keywords if isinstance(it.children[0].head, bytes)]
+    for at, name in enumerate(names):
+        if name in names[:at]:
+            raise NoTerm(f"a {known.name} has the keyword argument {name.decode(errors='replace')} twice")
 
 
 # The lists in which an element may be absent.
