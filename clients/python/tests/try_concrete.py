@@ -115,7 +115,7 @@ PLAIN = r"""rules
  -> [Return(Call(f,a,[]))|rest'] where where(<same'(|f)> f'1); where(<present'> x'2); where(<same-but-contexts'(|x)> x'2); where(<is-name> x)
   B : F(x) -> Call(Name("g",Load()),[x],[]) where <?Attribute(_,m,_)> x
 strategies
-  c(|y) = (?Compare(x,[Eq()],[x'1]); where(<same'(|x)> x'1)); (where(<concat'> [y,[Constant(2,None())]] => made'1); !Call(Name("f",Load()),[Constant(1,None())|made'1],[]))
+  c(|y) = (?Compare(x,[Eq()],[x'3]); where(<same'(|x)> x'3)); (where(<concat'> [y,[Constant(2,None())]] => made'4); !Call(Name("f",Load()),[Constant(1,None())|made'4],[]))
   d(s) = If(id,s,[])
   e = bottomup(try(\ Call(Name("f",_),[x],[]) -> Call(Name("g",Load()),[x],[]) where where(<unstarred'> x) \))
   f = ?Constant("`",_); id => Call(Name("f",_),[x],[]); where(where(<unstarred'> x)); <g> List([x],Load())

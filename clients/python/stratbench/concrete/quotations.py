@@ -16,6 +16,7 @@ from __future__ import annotations
 
 import re
 from collections.abc import Callable, Iterable, Iterator, Mapping
+from itertools import count
 from typing import Final, NamedTuple, Optional, TypeVar
 
 from ..strategies import Definition, NoStrategy, Pattern as Given, Reader, Strategy
@@ -99,6 +100,7 @@ class _Reader(Reader):
         # what the left side of the rule around binds
         self._around: Mapping[str, list[Form]] = {}
         self._words = frozenset(WORD.findall(span.source.text))
+        self._numbers = outer.numbers if outer is not None else count(1)
 
     # -- a text
 
@@ -222,11 +224,12 @@ class _Reader(Reader):
         return found
 
     def _new_bound(self) -> Bound:
-        outer = {it: [Form(it, "")] for it in self._parameters}
+        outer = {it: [Form(it, "", True)] for it in self._parameters}
         if self._outer is not None:
-            outer.update({name: [Form(forms[0].variable, "")] for name, forms in self._outer.variables.items() if forms})
-        outer.update({name: [Form(forms[0].variable, "")] for name, forms in self._around.items() if forms})
-        return Bound(outer, others=frozenset(self._matched), words=self._words | (self._outer.words if self._outer else frozenset()))
+            outer.update({name: [forms[0]._replace(is_outside=True)] for name, forms in self._outer.variables.items() if forms})
+        outer.update({name: [forms[0]._replace(is_outside=True)] for name, forms in self._around.items() if forms})
+        words = self._words | (self._outer.words if self._outer else frozenset())
+        return Bound(outer, others=frozenset(self._matched), words=words, numbers=self._numbers)
 
     def _replace(self, at: int, write: Callable[[Pattern], Made], pattern: Optional[Pattern] = None) -> None:
         patterns = self._patterns[at]

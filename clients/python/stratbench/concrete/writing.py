@@ -6,8 +6,9 @@ before a rule's own `where`, those of a building after it.
 
 from __future__ import annotations
 
-from collections.abc import Sequence
+from collections.abc import Iterator, Sequence
 from dataclasses import dataclass, field
+from itertools import count
 from typing import Final, NamedTuple, Union
 
 from .adapter import Adapter
@@ -48,31 +49,30 @@ def conjunction(conditions: Sequence[Condition]) -> Made:
 
 
 class Form(NamedTuple):
-    """A variable that stands for a metavariable, and the form of what it is bound to: "" for what is bound outside."""
+    """A variable that stands for a metavariable, and the form of what it is bound to: "" where that isn't known. One that is bound outside
+    can't stand in a pattern itself."""
 
     variable: str
     form: str
+    is_outside: bool = False
 
 
 @dataclass
 class Bound:
     """What is known of the metavariables of a rule. What is bound outside never stands in a pattern itself, since a closure `\\ l -> r \\`
     takes a variable of l for a new one. `others` are names that strategies bind, whose form isn't known; `words` are those that the user's
-    text has, none of which is made here."""
+    text has, none of which is made here. `numbers` are those of new variables: what is written into one definition shares them, also where it is
+    bound apart, as in a condition."""
 
     variables: dict[str, list[Form]] = field(default_factory=dict)
     many: dict[str, bool] = field(default_factory=dict)
     others: frozenset[str] = frozenset()
     words: frozenset[str] = frozenset()
-    made: int = 0
+    numbers: Iterator[int] = field(default_factory=lambda: count(1))
 
     def fresh(self, kind: str) -> str:
         """Returns a new variable."""
-        while True:
-            self.made += 1
-            found = f"{kind}'{self.made}"
-            if found not in self.words:
-                return found
+        return next(found for number in self.numbers if (found := f"{kind}'{number}") not in self.words)
 
     def check(self, hole: Hole) -> None:
         if self.many.setdefault(hole.name, hole.many) != hole.many:
@@ -154,9 +154,9 @@ class Matching:
             return mine
         first = known[0]
         same = self.adapter.same(first.form or hole.form, hole.form)
-        if same is None:
+        if same is None and not first.is_outside:
             raise Fault(f"{hole.shown} stands for {first.form} before, and for {hole.form} here", *hole.at)
-        if not same and first.form:
+        if not same and not first.is_outside:
             return _spelt(first.variable, hole.at)
         mine = self._guarded(hole.name, hole.at, hole.guards)
         self.conditions.append(put("<{}(|{})> {}", same or "same'", first.variable, mine))
