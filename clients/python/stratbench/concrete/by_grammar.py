@@ -14,7 +14,7 @@ from ..patch.grammar import Grammar
 from ..terms import LIST, Term, read
 from .holes import Hidden, Way
 from .pattern import Apply, Hole, Items, Pattern, is_rest
-from .text import Span
+from .text import Fault, Span
 from .trees import PRESENT, Field, Reading, Tables
 
 # The forms that every such language has.
@@ -89,15 +89,22 @@ class GrammarAdapter:
         hidden = Hidden(span, self._way)
         found: dict[str, Pattern] = {}
         faults: list[tuple[int, str]] = []
+        wrong: list[Fault] = []
         if not hidden.text.strip():
             return {it.kinds[-1]: Items() for it in self._reads if len(it.kinds) > 1}
         for front in self._fronts:
             for reads in self._reads:
                 term = self._term(hidden, reads, front, faults)
                 if term is not None:
-                    self._add(found, term, reads, hidden)
+                    # what is a call in one place is the head of a method in another, where it means nothing
+                    try:
+                        self._add(found, term, reads, hidden)
+                    except Fault as fault:
+                        wrong.append(fault)
             if found:
                 return found
+        if wrong:
+            raise wrong[0]
         place, message = max(faults, default=(0, "it is none"))
         raise hidden.fault(f"no {self.title}: {message}", place)
 
