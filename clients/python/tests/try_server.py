@@ -1,4 +1,5 @@
-"""The language server: what it answers, over its protocol and through Neovim's own client, which is installed where that can be done."""
+"""The language server: what it answers, over its protocol and through Neovim, Emacs and VS Code's extension. Neovim and node are installed
+where they aren't there and that can be done."""
 
 import doctest
 import glob
@@ -383,8 +384,9 @@ message: four(\\ G(x) -> x \\) on G(G(G(G(1)))) gives 1
 
 def by_code(top):
     """VS Code's extension, which is started as VS Code starts it."""
+    why = "" if shutil.which("node") else packages.installed("nodejs")
     if not shutil.which("node"):
-        yield "VS Code's extension: left out, since there is no node", "node is missing" if os.environ.get("CI") else ""
+        yield "VS Code's extension: left out, since there is no node", why if os.environ.get("CI") else ""
         return
     with tempfile.TemporaryDirectory() as room:
         text = MODULE.replace("strategies", "signature constructors G : t -> t strategies") + "  // > four(\\ G(x) -> x \\) on G(G(G(G(1))))\n"
