@@ -159,18 +159,25 @@ class Templates:
         """Returns the text of parts of a template."""
         out: Rope = []
         values = dict(zip(constructor.fields, new.children))
+        # the parts of an atom are one token, as those of a regular expression that ends with `\/`
+        is_atom = new.head in self._grammar.atoms
         for at, it in enumerate(parts):
+            rope: Rope = []
             if isinstance(it, Sign):
                 before = parts[at - 1] if at else None
                 after = parts[at + 1] if at + 1 < len(parts) else None
-                self._add(out, self._sign(it, self._is_empty(before, values), self._is_empty(after, values)))
+                rope = self._sign(it, self._is_empty(before, values), self._is_empty(after, values))
             elif isinstance(it, Group):
                 if not self._grammar.is_absent(values[it.field]):
-                    self._add(out, self.template(it.parts, constructor, new))
+                    rope = self.template(it.parts, constructor, new)
                 elif it.otherwise:
-                    self._add(out, [it.otherwise.encode()])
+                    rope = [it.otherwise.encode()]
             else:
-                self._add(out, self.field(it, values[it.name]))
+                rope = self.field(it, values[it.name])
+            if is_atom:
+                out += rope
+            else:
+                self._add(out, rope)
         return out
 
     def _is_empty(self, part: Optional[Part], values: dict[str, Term]) -> bool:
