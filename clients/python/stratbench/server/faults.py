@@ -77,7 +77,7 @@ def _file_of(sentence: Sentence, names: dict[str, str]) -> str | None:
 
 def _as_told(text: Text, it: Diagnostic, sentence: Sentence, is_first: bool, names: dict[str, str], folder: Folder) -> dict[str, Any]:
     """A diagnostic of the protocol. What is said beside the first fault belongs to that."""
-    message = sentence.text.removeprefix("also ")
+    message = sentence.text
     related: list[dict[str, Any]] = []
     if is_first:
         beside = [note for note in it.notes if note.kind != "fault"]
