@@ -93,14 +93,14 @@ pub(crate) struct Replacement {
 }
 
 /// A place that a line speaks of, and the bytes among those of all that say where it is.
-#[derive(Drop)]
+#[derive(Clone, Copy)]
 pub(crate) struct Label {
     pub(crate) place: LabelPlace,
     pub(crate) said: Kept,
 }
 
 /// What a label is the place of.
-#[derive(Drop)]
+#[derive(Clone, Copy)]
 pub(crate) enum LabelPlace {
     /// A place of the command's text, or of that of a module.
     Text {
@@ -122,7 +122,6 @@ pub(crate) struct Share {
 
 /// What is said of a command. Its lines are written one after the other, by `say!`; a growth of memory
 /// that is refused is kept in mind until the end.
-#[derive(Drop)]
 pub struct Diagnostic {
     pub(crate) severity: Severity,
     pub code: Code,
@@ -143,6 +142,27 @@ pub struct Diagnostic {
     /// Names, and texts that take the place of others.
     pub(crate) kept: Vec<u8>,
     refused: bool,
+}
+
+// By hand, so that a drop is a call: a derived one is proved anew wherever a scope ends.
+impl Drop for Diagnostic {
+    fn drop(self) {
+        let Diagnostic {
+            severity: _,
+            code: _,
+            line: _,
+            file: _,
+            subject: _,
+            ends: _,
+            text: _,
+            lines: _,
+            labels: _,
+            shares: _,
+            cause: _,
+            kept: _,
+            refused: _,
+        } = self;
+    }
 }
 
 impl Diagnostic {
@@ -172,10 +192,11 @@ impl Diagnostic {
     }
 
     /// With this code, whatever was said.
-    pub fn with_code(self, code: Code) -> Diagnostic
+    pub fn with_code(mut self, code: Code) -> Diagnostic
         ensures { result.code ≡ code }
     {
-        Diagnostic { code, ..self }
+        self.code = code;
+        self
     }
 
     /// Whether a growth of memory was refused, so that it isn't whole.

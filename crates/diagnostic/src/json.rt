@@ -5,7 +5,7 @@ use serde::Serialize;
 use std::alloc::{AllocError, Global};
 
 // A diagnostic as it is written. What it hasn't got is left out.
-#[derive(Drop, Serialize)]
+#[derive(Serialize)]
 struct Written {
     severity: &'static str,
     #[serde(skip_serializing_if = "Option::is_none")]
@@ -34,7 +34,7 @@ struct Written {
     steps: Option<Vec<WrittenShare>>,
 }
 
-#[derive(Drop, Serialize)]
+#[derive(Serialize)]
 struct WrittenNote {
     kind: &'static str,
     message: String,
@@ -44,7 +44,7 @@ struct WrittenNote {
 }
 
 // A place in a text, or a path in a tree. `said` are the bytes of the message that say where it is.
-#[derive(Drop, Serialize)]
+#[derive(Serialize)]
 struct WrittenLabel {
     #[serde(skip_serializing_if = "Option::is_none")]
     module: Option<String>,
@@ -69,6 +69,52 @@ struct WrittenReplacement {
 struct WrittenShare {
     definition: Option<String>,
     steps: u64,
+}
+
+impl Drop for Written {
+    fn drop(self) {
+        let Written {
+            severity: _,
+            number: _,
+            code: _,
+            answer: _,
+            line: _,
+            file: _,
+            module: _,
+            definition: _,
+            subject: _,
+            ends: _,
+            message: _,
+            labels: _,
+            excerpt: _,
+            notes: _,
+            steps: _,
+        } = self;
+    }
+}
+
+impl Drop for WrittenNote {
+    fn drop(self) {
+        let WrittenNote {
+            kind: _,
+            message: _,
+            labels: _,
+            replace: _,
+        } = self;
+    }
+}
+
+impl Drop for WrittenLabel {
+    fn drop(self) {
+        let WrittenLabel {
+            module: _,
+            span: _,
+            line: _,
+            column: _,
+            path: _,
+            said: _,
+        } = self;
+    }
 }
 
 impl Diagnostic {

@@ -14,17 +14,39 @@ const WHOLE: usize = 10;
 
 const FRONT: usize = 3;
 
-/// Appends a sentence to a line, with each of these in the place of a `{}`. They are handed on one by
-/// one: an array of them at each sentence is dear to prove.
+/// Appends a sentence to a line, with each of these, at most four, in the place of a `{}`. It makes one
+/// call: each call is dear to prove, and so is an array of them at each sentence.
 #[macro_export]
 macro_rules! say {
-    ($hint:expr; $sentence:expr $(, $fill:expr)*) => {{
-        let rest = $sentence;
-        $(
-            let fill = $fill;
-            let rest = $hint.say_up_to(rest, fill);
-        )*
-        $hint.words(rest)
+    ($hint:expr; $sentence:expr) => {{
+        let sentence = $sentence;
+        $hint.words(sentence)
+    }};
+    ($hint:expr; $sentence:expr, $first:expr) => {{
+        let sentence = $sentence;
+        let first = $first;
+        $hint.say_one(sentence, first)
+    }};
+    ($hint:expr; $sentence:expr, $first:expr, $second:expr) => {{
+        let sentence = $sentence;
+        let first = $first;
+        let second = $second;
+        $hint.say_two(sentence, first, second)
+    }};
+    ($hint:expr; $sentence:expr, $first:expr, $second:expr, $third:expr) => {{
+        let sentence = $sentence;
+        let first = $first;
+        let second = $second;
+        let third = $third;
+        $hint.say_three(sentence, first, second, third)
+    }};
+    ($hint:expr; $sentence:expr, $first:expr, $second:expr, $third:expr, $fourth:expr) => {{
+        let sentence = $sentence;
+        let first = $first;
+        let second = $second;
+        let third = $third;
+        let fourth = $fourth;
+        $hint.say_four(sentence, first, second, third, fourth)
     }};
 }
 
@@ -59,8 +81,45 @@ impl Diagnostic {
         self.bytes(words.as_bytes());
     }
 
-    /// Appends a sentence up to its first `{}`, and this in the place of that. Returns the rest.
-    pub fn say_up_to<'s>(&mut self, sentence: &'s str, fill: Fill<'_>) -> &'s str {
+    /// Appends a sentence, with this in the place of its `{}`.
+    pub fn say_one(&mut self, sentence: &str, first: Fill<'_>) {
+        let rest = self.say_up_to(sentence, first);
+        self.words(rest);
+    }
+
+    /// The same with two.
+    pub fn say_two(&mut self, sentence: &str, first: Fill<'_>, second: Fill<'_>) {
+        let rest = self.say_up_to(sentence, first);
+        self.say_one(rest, second);
+    }
+
+    /// The same with three.
+    pub fn say_three(
+        &mut self,
+        sentence: &str,
+        first: Fill<'_>,
+        second: Fill<'_>,
+        third: Fill<'_>,
+    ) {
+        let rest = self.say_up_to(sentence, first);
+        self.say_two(rest, second, third);
+    }
+
+    /// The same with four.
+    pub fn say_four(
+        &mut self,
+        sentence: &str,
+        first: Fill<'_>,
+        second: Fill<'_>,
+        third: Fill<'_>,
+        fourth: Fill<'_>,
+    ) {
+        let rest = self.say_up_to(sentence, first);
+        self.say_three(rest, second, third, fourth);
+    }
+
+    // Appends a sentence up to its first `{}`, and this in the place of that. Returns the rest.
+    fn say_up_to<'s>(&mut self, sentence: &'s str, fill: Fill<'_>) -> &'s str {
         let Some((words, rest)) = sentence.split_once("{}") else {
             return sentence;
         };

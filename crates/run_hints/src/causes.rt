@@ -24,13 +24,22 @@ struct Begun {
 }
 
 /// The failures that were caught, and after which a choice or a walk goes on, the outermost first.
-#[derive(Drop)]
 pub struct Causes {
     caught: Vec<Cause>,
     // The strategy that was begun last with so many frames below it.
     begun: Vec<Begun>,
     // The turn of a failure that hasn't been caught yet.
     failed: Option<u64>,
+}
+
+impl Drop for Causes {
+    fn drop(self) {
+        let Causes {
+            caught: _,
+            begun: _,
+            failed: _,
+        } = self;
+    }
 }
 
 impl Causes {

@@ -19,7 +19,6 @@ pub struct Left<'a> {
 }
 
 /// A part of a pattern that doesn't match the subterm in its place.
-#[derive(Drop)]
 pub struct Miss<'t> {
     /// How many parts of the pattern are before it: what is around it, and what is left of it.
     pub before: usize,
@@ -30,6 +29,18 @@ pub struct Miss<'t> {
     pub bound: Option<Value<'t>>,
     /// Whether it would match if the annotations were others.
     pub is_annotated: bool,
+}
+
+impl Drop for Miss<'_> {
+    fn drop(self) {
+        let Miss {
+            before: _,
+            is_root: _,
+            value: _,
+            bound: _,
+            is_annotated: _,
+        } = self;
+    }
 }
 
 /// How much of a pattern matches a term.

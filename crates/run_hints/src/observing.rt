@@ -61,7 +61,6 @@ pub struct Bound<'t> {
 
 /// Where a run stood: the strategy that was begun last, with its place, the open calls, the
 /// outermost first, where the focus was, and the focus.
-#[derive(Drop)]
 pub struct Stand<'t> {
     pub strategy: &'t ResolvedStrategy,
     pub place: Option<StrategyPlace<'t>>,
@@ -76,6 +75,22 @@ pub struct Stand<'t> {
     pub is_rest: bool,
 }
 
+// By hand, so that a drop is a call: a derived one is proved anew wherever a scope ends.
+impl Drop for Stand<'_> {
+    fn drop(self) {
+        let Stand {
+            strategy: _,
+            place: _,
+            calls: _,
+            spot: _,
+            focus: _,
+            miss: _,
+            bound: _,
+            is_rest: _,
+        } = self;
+    }
+}
+
 // A strategy that was begun, in its scope.
 #[derive(Clone, Copy)]
 struct Begun<'t> {
@@ -87,7 +102,6 @@ struct Begun<'t> {
 }
 
 /// What is kept of a run.
-#[derive(Drop)]
 pub struct RunRecord<'t> {
     about: About<'t>,
     wanted: Wanted,
@@ -116,6 +130,30 @@ pub struct RunRecord<'t> {
     pub size: u64,
     /// Whether it succeeded, and left the term as it was.
     pub has_left: bool,
+}
+
+impl Drop for RunRecord<'_> {
+    fn drop(self) {
+        let RunRecord {
+            about: _,
+            wanted: _,
+            turn: _,
+            calls: _,
+            begun: _,
+            succeeded: _,
+            left: _,
+            library: _,
+            most: _,
+            nearest: _,
+            spent: _,
+            successes: _,
+            recent: _,
+            causes: _,
+            stand: _,
+            size: _,
+            has_left: _,
+        } = self;
+    }
 }
 
 impl<'t> RunRecord<'t> {
