@@ -1,0 +1,109 @@
+#!/usr/bin/env python3
+"""Says where the time of a crate's proof goes.
+
+Run by hand, at the top of a clone in which `rt ci` has proved the crates below:
+
+    tools/measure/proof.py [--libraries DIR] CRATE [COUNT]
+
+The crate is checked by one job, which saves each module when it is done with it: what has passed since it saved the one before is
+counted for the function that the module belongs to. The first function that uses a type pays for what all share. Printed are the
+seconds of the COUNT dearest functions, 30 where none is named, and of what is saved for each, as the checker calls it: `Lts` is what the
+borrow checker left, the `drop`s at each exit included. With `--libraries` the proved crates are those of another clone. The status is
+that of the check.
+"""
+
+import argparse
+import collections
+import os
+import re
+import resource
+import subprocess
+import sys
+import tempfile
+
+TOP = os.path.dirname(os.path.dirname(os.path.dirname(os.path.realpath(__file__))))
+sys.dont_write_bytecode = True
+sys.path.insert(0, f"{TOP}/tools")
+
+from c_library import kit  # noqa: E402
+
+# What is saved for a function, at the end of a module's name.
+KIND = re.compile(r"\.(Lts|Code|Proof|Tie|TheLinks?|Met|Statement|Key|Layout|Reads|Symbol|Given|Carried|Kinds|Named)\b.*")
+
+
+def crates():
+    """The crates, lowest first, and what each stands on."""
+    found = {}
+    with open(f"{TOP}/crates.txt") as lines:
+        for line in lines:
+            if ":" in line and not line.startswith("#"):
+                name, _, below = line.partition(":")
+                found[name.split()[0]] = below.split()
+    return found
+
+
+def command(crate, libraries, room):
+    """The check of a crate by one job, which saves its modules in a folder."""
+    below = crates()
+    if crate not in below:
+        sys.exit(f"no crate {crate} in crates.txt")
+    ours, reached = [it for it in below if it in below[crate]], {crate}
+    for name in reversed(below):
+        if name in reached:
+            reached.update(below[name])
+
+    def folder(name):
+        return f"{libraries}/crates/{name}/out/rlib" if name in below else f"{kit()}/rlibs"
+
+    words = [f"{kit()}/bin/rattle", "check", "--crate-name", crate, "src/main.rt" if os.path.exists(f"{TOP}/crates/{crate}/src/main.rt") else "src/lib.rt"]
+    for name in ["std", *(it for it in below[crate] if it not in below), *ours]:
+        words += ["--extern", f"{name}={folder(name)}/{name}.rlib"]
+    for place in dict.fromkeys([f"{kit()}/rlibs", *(folder(it) for it in below if it in reached - {crate})]):
+        words += ["-L", f"dependency={place}"]
+    return words + [
+        *("--antt-project", f"{kit()}/rattle/logic/antt-project.json", "--logic-built", f"{kit()}/logic_built"),
+        *("--links", f"{crate}=", "--jobs", "1", "--incremental", room),
+    ]
+
+
+def saved(room):
+    """The modules that a check saved, in order: when, and its name."""
+    found = []
+    for place, _, files in os.walk(room):
+        found += [(os.path.getmtime(f"{place}/{it}"), it[: -len(".oantt")]) for it in files if it.endswith(".oantt") and "/records" not in place]
+    return sorted(found)
+
+
+def report(crate, modules, count):
+    functions, kinds = collections.Counter(), collections.Counter()
+    for (before, _), (now, name) in zip(modules, modules[1:]):
+        name = re.sub(rf"^Rattle-{crate}[-.](proofs|specs)\.(contracts\.)?", "", name)
+        kind = KIND.search(name)
+        functions[KIND.sub("", name)] += now - before
+        kinds[kind[1] if kind else "other"] += now - before
+    print(f"{modules[-1][0] - modules[0][0]:.0f} s: " + ", ".join(f"{kind} {seconds:.0f}" for kind, seconds in kinds.most_common(8)))
+    for name, seconds in functions.most_common(count):
+        print(f"{seconds:7.1f}  {name}")
+
+
+def main(words):
+    parser = argparse.ArgumentParser(description="Says where the time of a crate's proof goes.")
+    parser.add_argument("--libraries", default=TOP)
+    parser.add_argument("crate")
+    parser.add_argument("count", type=int, nargs="?", default=30)
+    given = parser.parse_args(words)
+    with tempfile.TemporaryDirectory() as room:
+        words = command(given.crate, os.path.realpath(given.libraries), room)
+        ran = subprocess.run(words, cwd=f"{TOP}/crates/{given.crate}", stdout=subprocess.PIPE, stderr=subprocess.STDOUT, text=True)
+        used = resource.getrusage(resource.RUSAGE_CHILDREN)
+        modules = saved(room)
+        if ran.returncode or not modules:
+            print(ran.stdout, end="")
+        else:
+            report(given.crate, modules, given.count)
+            print(f"{used.ru_utime + used.ru_stime:.0f} s of processor time")
+    return ran.returncode
+
+
+if __name__ == "__main__":
+    sys.exit(main(sys.argv[1:]))
