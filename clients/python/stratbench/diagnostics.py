@@ -93,6 +93,10 @@ class Diagnostic(NamedTuple):
         """Returns the first place that the message speaks of."""
         return self.message.first()
 
+    def faults(self) -> list[Sentence]:
+        """Returns the message, and those of further faults."""
+        return [self.message, *(it for it in self.notes if it.kind == "fault")]
+
 
 def told(it: Diagnostic) -> str:
     """Returns a diagnostic as the program says it in text, without its name."""

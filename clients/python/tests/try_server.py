@@ -16,22 +16,26 @@ import time
 
 import packages
 from stratbench.server import answers, layout, reading
+from stratbench.server.checking import Sent, Session
 from stratbench.server.folder import Folder
 from stratbench.server.messages import receive, send
 from stratbench.server.texts import Text, path_of, uri_of
 
 CLIENT = os.path.dirname(os.path.dirname(os.path.realpath(__file__)))
 EXAMPLE = re.compile(r"^ *// example: (.+) on (.+?) (?:gives .+|fails)$", re.MULTILINE)
-# How many names are changed, and how many mistakes are made.
-RENAMED, MISTAKES, MODULES = 100, 60, 40
+# How many names are changed, and how many mistakes are made in how many modules, and how many changes of small ones.
+RENAMED, MISTAKES, MODULES, CHANGES = 100, 60, 40, 150
+# The milliseconds that the answer to a mistake may take: in the median, and at most.
+MEDIAN, MOST = 50, 200
 
 
 class Editor:
     """An editor that speaks to the server."""
 
-    def __init__(self):
+    def __init__(self, room=None):
         environment = {**os.environ, "PYTHONPATH": CLIENT}
-        self.server = subprocess.Popen([sys.executable, "-m", "stratbench.server"], stdin=subprocess.PIPE, stdout=subprocess.PIPE, env=environment)
+        words = [sys.executable, "-m", "stratbench.server"]
+        self.server = subprocess.Popen(words, stdin=subprocess.PIPE, stdout=subprocess.PIPE, env=environment, cwd=room)
         self.number = 0
         self.told = {}
         self.ask("initialize", processId=None, rootUri=None, capabilities={})
@@ -248,39 +252,38 @@ def names_change(top):
 
 
 def mistakes(top):
-    """Mistakes in a folder of forty modules are told in the definitions that have them, while somebody types."""
+    """Mistakes in a folder of forty modules, those of `strategies` among them, are told in the definitions that have them, while somebody
+    types in Neovim, a mistake a second."""
+    why = without_neovim()
+    if why is not None:
+        yield "mistakes through Neovim: left out, since there is none", why
+        return
     choose = random.Random(2)
     with tempfile.TemporaryDirectory() as room:
-        files = [shutil.copy(it, room) for it in general(top)]
+        files = [shutil.copy(it, room) for it in sorted(glob.glob(f"{top}/strategies/*.str"))]
         for number in range(MODULES - len(files)):
             text = f"module more-{number}\nstrategies\n" + "".join(f"  more-{number}-{n}(s) = try(s); all(more-{number}-{n}(s))\n" for n in range(20))
             files.append(written(room, f"more-{number}.str", text))
-        editor, seconds, wrong = Editor(), [], []
-        opened = {}
-        for number in range(MISTAKES):
-            file = choose.choice(files)
-            text = contents(file)
-            if file not in opened:
-                editor.open(file, text)
-                opened[file] = text
-                editor.diagnostics(file)
-            module = reading.read(text)
-            use = choose.choice([it for it in module.names if it.kind == "use"])
-            inside = next(it for it in module.definitions if it.begin <= use.begin < it.end)
-            begun = time.monotonic()
-            editor.change(file, text[: use.end] + "-lost" + text[use.end :])
-            found = editor.diagnostics(file)
-            seconds.append(time.monotonic() - begun)
-            places = [Text(text).place(it["range"]["start"]) for it in found]
-            if not any(inside.begin <= place < inside.end for place in places):
-                wrong.append(f"{number}: {os.path.basename(file)}: {use.name} in {inside.name}: {found}")
-            editor.change(file, text)
-            left = editor.diagnostics(file)
-            if left:
-                wrong.append(f"{number}: {os.path.basename(file)}: {left}")
-        editor.end()
-        took = f"{1000 * statistics.median(seconds):.0f} ms in the median, {1000 * max(seconds):.0f} at most"
-        yield f"{MISTAKES} mistakes in {len(files)} modules, {took}", "\n".join(wrong[:5])
+        calling = [it for it in files if any(name.kind == "use" for name in reading.read(contents(it)).names)]
+        plan = [planted(choose, choose.choice(calling)) for _ in range(MISTAKES)]
+        said, found = by_neovim(room, "mistakes", PLAN=written(room, "plan", "".join("\t".join(map(str, it)) + "\n" for it in plan)))
+        lines = [it.split("\t") for it in found.splitlines()]
+        wrong = [f"{it}: {line}" for it, line in zip(plan, lines) if line[0] != "true" or line[2] != "true"]
+        wrong += [] if len(lines) == len(plan) else [f"{len(lines)} lines: {said}"]
+        seconds = [float(it[1]) for it in lines] or [0.0]
+        median, most = statistics.median(seconds), max(seconds)
+        wrong += [f"{median} and {most} ms"] if median > MEDIAN or most > MOST else []
+        yield f"{len(plan)} mistakes in {len(files)} modules, {median:.0f} ms in the median, {most:.0f} at most", "\n".join(wrong[:5])
+
+
+def planted(choose, file):
+    """A mistake in a file: a line and a column, what is inserted there, and the lines of the definition that has it."""
+    text = Text(contents(file))
+    use = choose.choice([it for it in text.module.names if it.kind == "use"])
+    inside = next(it for it in text.module.definitions if it.begin <= use.begin < it.end)
+    line = text.position(use.begin)["line"]
+    column = len(text.text[text.starts[line] : use.end].encode())
+    return file, line, column, "-lost", text.position(inside.begin)["line"], text.position(inside.end)["line"]
 
 
 def layouts(top):
@@ -324,24 +327,96 @@ renamed\t  four(s) = double(double(s))
 """
 
 
-def through_neovim():
+def without_neovim():
+    """None where there is a Neovim, or one can be installed; else what is wrong with that, in a run that has to have one."""
     why = "" if shutil.which("nvim") else packages.installed("neovim")
-    if not shutil.which("nvim"):
-        yield "through Neovim: left out, since there is none", why if os.environ.get("CI") else ""
+    return None if shutil.which("nvim") else why if os.environ.get("CI") else ""
+
+
+def neovim(room, script, **more):
+    """Starts Neovim with a script in a folder, where it writes to the file `out`."""
+    environment = {**os.environ, "PYTHONPATH": CLIENT, "OUT": f"{room}/out", "PYTHON": sys.executable, "HOME": room, "TMPDIR": room, **more}
+    command = f"luafile {os.path.dirname(os.path.realpath(__file__))}/{script}.lua"
+    words = ["nvim", "--headless", "-u", "NONE", "-i", "NONE", "-n", "-c", command]
+    pipes = {"stdin": subprocess.DEVNULL, "stdout": subprocess.PIPE, "stderr": subprocess.STDOUT}
+    return subprocess.Popen(words, cwd=room, env=environment, text=True, **pipes)
+
+
+def by_neovim(room, script, **more):
+    """Runs a script of Neovim's in a folder. Returns what it said, and what it wrote."""
+    ran = neovim(room, script, **more)
+    said, _ = ran.communicate(timeout=600)
+    return said, contents(f"{room}/out") if os.path.exists(f"{room}/out") else ""
+
+
+def through_neovim():
+    why = without_neovim()
+    if why is not None:
+        yield "through Neovim: left out, since there is none", why
         return
     with tempfile.TemporaryDirectory() as room:
-        path = written(room, "m.str", MODULE)
-        environment = {**os.environ, "PYTHONPATH": CLIENT, "OUT": f"{room}/out", "FILE": path, "PYTHON": sys.executable, "HOME": room}
-        script = f"luafile {os.path.dirname(os.path.realpath(__file__))}/neovim.lua"
-        words = ["nvim", "--headless", "-u", "NONE", "-i", "NONE", "-n", "-c", script]
-        ran = subprocess.run(words, cwd=room, env=environment, capture_output=True, text=True, stdin=subprocess.DEVNULL, timeout=300)
-        found = contents(f"{room}/out") if os.path.exists(f"{room}/out") else ""
-        yield "through Neovim", "" if found == THROUGH_NEOVIM else f"{found}{ran.stderr}"
-        # the server runs in this folder, and ends once it reads that its input has
-        until = time.monotonic() + 300
-        while (left := [it for it in glob.glob("/proc/[0-9]*/cwd") if real(it) == room]) and time.monotonic() < until:
+        said, found = by_neovim(room, "neovim", FILE=written(room, "m.str", MODULE))
+        yield "through Neovim", "" if found == THROUGH_NEOVIM else f"{found}{said}"
+        yield "nothing is left running", "\n".join(left_in(room))
+    with tempfile.TemporaryDirectory() as room:
+        editor = neovim(room, "waiting", FILE=written(room, "m.str", MODULE.replace("= s", "= lost; s")))
+        while not os.path.exists(f"{room}/out") and editor.poll() is None:
             time.sleep(0.05)
-        yield "nothing is left running", "\n".join(left)
+        running = [it for it in glob.glob("/proc/[0-9]*/cwd") if real(it) == os.path.realpath(room)]
+        editor.kill()
+        editor.communicate(timeout=60)
+        left = left_in(room)
+        # Neovim, the server and the program ran
+        few = "" if len(running) == 3 and contents(f"{room}/out") == "true" else f"{len(running)} ran"
+        yield "nothing is left running, and no file, where Neovim is killed", few or "\n".join([*left, *glob.glob(f"{room}/stratbench-*")])
+
+
+# Texts that modules have by turns, of which many don't go together.
+TURNS = {
+    "a": ["module a\nstrategies\n  f = g\n  h = id", "module a\nstrategies\n  f = id", "strategies f = (", "module a strategies f = Z; h(id|1)"],
+    "b": ["strategies g = id\nrules\nR : Zero -> x", "strategies g = f", "rules R : Zero() -> y", "strategies g = id  h = helo", ""],
+    "c": ["signature constructors Zero : t  Z : t -> t", "signature constructors One : t", "strategies h = g", "  \n\nstrategies\r\nk = gg\r\n"],
+    "d": ["strategies h(s|x) = s; !x", "strategies h(s|x) = s; !x; f", "strategies }", "strategies e = f; g"],
+}
+
+
+def by_turns():
+    """A session says of each of many changes what another says that begins with the same modules."""
+    choose = random.Random(4)
+    program = os.environ["STRATBENCH"]
+    one, faults, kinds = Session(program, False), [], set()
+    texts = {name: Sent(every[0]) for name, every in TURNS.items()}
+    for number in range(CHANGES):
+        for name in choose.sample(sorted(TURNS), choose.choice((1, 1, 1, 2, 3))):
+            texts[name] = Sent(choose.choice(TURNS[name]))
+        if number % 20 == 19:
+            texts = {name: it for name, it in texts.items() if name != "d"}
+        other = Session(program, False)
+        got, wanted = ([gist(it) for it in session.check(texts)] for session in (one, other))
+        other.end()
+        kinds.add(min((it.split(" ")[0] for it in wanted), default="none"))
+        # of what is no module the other knows no text before it, and so nothing of what depends on that
+        lacks = any(it.startswith("syntax") for it in wanted)
+        if not set(wanted) <= set(got) if lacks else sorted(got) != sorted(wanted):
+            faults.append(f"{number}: {got}, and not {wanted}: {[it.own for it in texts.values()]}")
+    one.end()
+    few = "" if len(kinds) > 4 else f"{kinds}"
+    yield f"{CHANGES} changes of modules in one session", few or "\n".join(faults[:3])
+
+
+def gist(said):
+    """What is said, with the places as they are in either session."""
+    it = said.diagnostic
+    places = [(one.first().module or said.module, one.first().span) for one in it.faults() if one.first()]
+    return f"{it.code} {places} {[note.replacement and note.replacement.text for note in it.notes]}"
+
+
+def left_in(room):
+    """What still runs in a folder, after as long as it takes to end: the server and the program run where the editor does."""
+    until = time.monotonic() + 300
+    while (left := [it for it in glob.glob("/proc/[0-9]*/cwd") if real(it) == os.path.realpath(room)]) and time.monotonic() < until:
+        time.sleep(0.05)
+    return left
 
 
 THROUGH_EMACS = """mode\tstratego-mode
@@ -417,10 +492,17 @@ def ends():
         if how == "exit":
             editor.server.stdin.close()
         editor.server.stdout.close()
+    with tempfile.TemporaryDirectory() as room:
+        editor = Editor(room)
+        editor.open(os.path.join(room, "m.str"), "strategies f = g")
+        editor.diagnostics(os.path.join(room, "m.str"))
+        editor.server.kill()
+        editor.server.communicate(timeout=60)
+        yield "the program ends with the server", "\n".join(left_in(room))
 
 
 def tests(top, everything):
-    for name in ("reading", "layout", "texts", "messages", "trying"):
+    for name in ("reading", "layout", "texts", "messages", "trying", "checking"):
         found = doctest.testmod(importlib.import_module(f"stratbench.server.{name}"))
         yield f"the examples of {name}", "" if found.attempted and not found.failed else f"{found}"
     yield from read_all(top)
@@ -428,6 +510,7 @@ def tests(top, everything):
     yield from said()
     yield from renamed()
     yield from ends()
+    yield from by_turns()
     yield from mistakes(top)
     yield from names_change(top)
     yield from through_neovim()

@@ -2,23 +2,19 @@
 
 from __future__ import annotations
 
-import contextlib
 import os
 import re
-import subprocess
-import tempfile
-from collections.abc import Iterator
-from typing import Any, Final
+from typing import Any, Final, Optional
 
-from ..diagnostics import Diagnostic, Label, Sentence, parsed
+from ..diagnostics import Diagnostic, Label, Sentence
+from .checking import Said
 from .folder import Folder
+from .reading import name_of
 from .texts import Text, uri_of
 
 ERROR: Final = 1
 WARNING: Final = 2
 _NAME: Final = re.compile(r"[A-Za-z_][A-Za-z0-9_*+.$'-]{0,63}")
-# How long the program may take.
-_SECONDS: Final = 20
 
 
 def names_of(folder: Folder, paths: list[str]) -> dict[str, str]:
@@ -26,7 +22,7 @@ def names_of(folder: Folder, paths: list[str]) -> dict[str, str]:
     found: dict[str, str] = {}
     for number, path in enumerate(paths):
         stem = os.path.basename(path).removesuffix(".str")
-        for name in (folder.text(path).module.name, stem):
+        for name in (name_of(folder.text(path).text), stem):
             if name and _NAME.fullmatch(name) and name not in found:
                 found[name] = path
                 break
@@ -35,88 +31,93 @@ def names_of(folder: Folder, paths: list[str]) -> dict[str, str]:
     return found
 
 
-@contextlib.contextmanager
-def with_files(folder: Folder, own: str) -> Iterator[tuple[list[str], dict[str, str]]]:
-    """Gives the words by which the program loads the modules of a folder with this one, and the file of each that it names. A buffer is in a
-    file of its own meanwhile."""
-    paths = sorted({*folder.paths(), own})
-    with tempfile.TemporaryDirectory(prefix="stratbench-") as room:
-        files: dict[str, str] = {}
-        for number, path in enumerate(paths):
-            file = path
-            if path in folder.buffers:
-                file = os.path.join(room, f"{number}.str")
-                with open(file, "w", encoding="utf-8", errors="replace", newline="") as out:
-                    out.write(folder.buffers[path].text)
-            files[file] = path
-        words = [f"--module={name}={file}" for name, file in zip(names_of(folder, paths), files)]
-        yield ["--library"] * folder.has_library() + words, files
+class _Modules:
+    """The modules that something is said of, by the names that the program knows them by."""
+
+    def __init__(self, folder: Folder, own: str) -> None:
+        self.files = names_of(folder, sorted({*folder.paths(), own}))
+        self.texts = {name: folder.text(path) for name, path in self.files.items()}
+
+    def place(self, label: Label, own: Optional[str]) -> tuple[str, int, int] | None:
+        """Returns the module of a label and its characters; none of one that is elsewhere. `own` is the module whose text was refused."""
+        name = label.module or own
+        if name not in self.texts or label.line is None:
+            return None
+        sent = self.texts[name].sent
+        if label.span is None:
+            end = len(sent.own.rstrip())
+            return name, end, end
+        begin, end = map(sent.place, label.span)
+        return name, begin, end
+
+    def told(self, sentence: Sentence, own: Optional[str]) -> str:
+        """Returns a sentence with its places as the files have them."""
+
+        def telling(label: Label) -> str | None:
+            place = self.place(label, own)
+            if place is None:
+                return None
+            line, column = self.texts[place[0]].line_and_column(place[1])
+            return f"line {line}, column {column}"
+
+        return sentence.told(telling)
 
 
 def faults_of(folder: Folder, own: str) -> dict[str, list[dict[str, Any]]]:
     """Returns the diagnostics of each file of a folder that is looked at with this one, those without any, too."""
-    with with_files(folder, own) as (words, files):
-        names = names_of(folder, list(files.values()))
-        ran = subprocess.run(
-            [folder.program, "--check", "--explain=json", *words],
-            stdin=subprocess.DEVNULL, stdout=subprocess.DEVNULL, stderr=subprocess.PIPE, timeout=_SECONDS,
-        )  # fmt: skip
-    found: dict[str, list[dict[str, Any]]] = {path: [] for path in files.values()}
-    for it in parsed(ran.stderr.decode(errors="replace")):
-        path = files.get(it.file or "", own)
-        for sentence in (it.message, *(note for note in it.notes if note.kind == "fault")):
-            there = _file_of(sentence, names) or path
-            found[there].append(_as_told(folder.text(there), it, sentence, sentence is it.message, names, folder))
+    modules = _Modules(folder, own)
+    said = folder.session.check({name: it.sent for name, it in modules.texts.items()})
+    found: dict[str, list[dict[str, Any]]] = {path: [] for path in modules.files.values()}
+    # what is no module has no other places
+    broken = {it.module for it in said if it.module and it.diagnostic.severity == "refusal"}
+    for it in said:
+        for sentence in it.diagnostic.faults():
+            first = sentence.first()
+            name = (first.module if first else None) or it.module
+            if name in modules.files and (it.module or name not in broken):
+                found[modules.files[name]].append(_as_told(modules, it, name, sentence))
     return found
 
 
-def _file_of(sentence: Sentence, names: dict[str, str]) -> str | None:
-    first = sentence.first()
-    return names.get(first.module) if first and first.module else None
-
-
-def _as_told(text: Text, it: Diagnostic, sentence: Sentence, is_first: bool, names: dict[str, str], folder: Folder) -> dict[str, Any]:
+def _as_told(modules: _Modules, said: Said, name: str, sentence: Sentence) -> dict[str, Any]:
     """A diagnostic of the protocol. What is said beside the first fault belongs to that."""
-    message = sentence.text
-    related: list[dict[str, Any]] = []
+    it, text = said.diagnostic, modules.texts[name]
+    is_first = sentence is it.message
+    beside = [note for note in it.notes if note.kind != "fault"] if is_first else []
+    lines = [modules.told(one, said.module) for one in (sentence, *beside)]
     if is_first:
-        beside = [note for note in it.notes if note.kind != "fault"]
-        begin = (it.answer or "").removeprefix("refused ")
-        message = "\n".join(part for part in (": ".join(part for part in (begin, message) if part), *(note.text for note in beside)) if part)
-        for note in beside:
-            for label in note.labels:
-                there = names.get(label.module) if label.module else None
-                other = folder.text(there) if there else text
-                if label.line is not None and (label.module is None or there):
-                    uri = uri_of(there) if there else ""
-                    related.append({"location": {"uri": uri, "range": range_of(other, label)}, "message": note.text})
+        lines[0] = ": ".join(part for part in ((it.answer or "").removeprefix("refused "), lines[0]) if part)
     first = sentence.first()
     found: dict[str, Any] = {
-        "range": range_of(text, first) if first else text.range(0, 0),
+        "range": _range(modules, first, said.module) if first else text.range(0, 0),
         "severity": WARNING if it.severity == "warning" else ERROR,
         "code": it.code,
         "source": "stratbench",
-        "message": message,
+        "message": "\n".join(filter(None, lines)),
     }
+    related = [one for note in beside for one in _related(modules, note, said.module)]
     if related:
         found["relatedInformation"] = related
-    for note in it.notes if is_first else ():
+    for note in beside:
         if note.replacement:
-            first_place, last_place = (len(text.text.encode()[:at].decode(errors="replace")) for at in note.replacement.span)
-            found["data"] = {"range": text.range(first_place, last_place), "with": note.replacement.text}
+            begin, end = map(text.sent.place, note.replacement.span)
+            found["data"] = {"range": text.range(begin, end), "with": note.replacement.text}
     return found
 
 
-def range_of(text: Text, label: Label) -> dict[str, Any]:
-    """Returns the range of a label. The text of a module that was loaded before has one blank more where a line begins in the first column."""
-    if label.line is None or label.line > len(text.lines):
-        return text.range(0, 0)
-    line = text.lines[label.line - 1]
-    column = (label.column or 1) - 1
-    if label.module is not None and line[:1] not in ("", " ", "\t", "\r"):
-        column = max(0, column - 1)
-    begin = text.starts[label.line - 1] + min(column, len(line))
-    length = label.span[1] - label.span[0] if label.span else 1
-    # the span is counted in bytes
-    end = begin + len(text.text[begin : begin + length].encode()[:length].decode(errors="ignore"))
-    return text.range(begin, end)
+def _range(modules: _Modules, label: Label, own: Optional[str]) -> dict[str, Any]:
+    place = modules.place(label, own)
+    if place is None:
+        return Text("").range(0, 0)
+    name, begin, end = place
+    return modules.texts[name].range(begin, max(end, begin + 1))
+
+
+def _related(modules: _Modules, note: Sentence, own: Optional[str]) -> list[dict[str, Any]]:
+    found = []
+    for label in note.labels:
+        place = modules.place(label, own)
+        if place:
+            location = {"uri": uri_of(modules.files[place[0]]), "range": _range(modules, label, own)}
+            found.append({"location": location, "message": modules.told(note, own)})
+    return found

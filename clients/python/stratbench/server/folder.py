@@ -9,6 +9,7 @@ import subprocess
 from collections.abc import Iterator
 from typing import Any, Final
 
+from .checking import Session
 from .reading import Constructor, Definition, Module
 from .texts import Text
 
@@ -48,6 +49,20 @@ class Folder:
         self.program = program
         self._read: dict[str, tuple[float, Text]] = {}
         self._library: Text | None = None
+        self._session: Session | None = None
+
+    @property
+    def session(self) -> Session:
+        """The program with these modules."""
+        if self._session is None or self._session.has_library != self.has_library():
+            self.end()
+            self._session = Session(self.program, self.has_library())
+        return self._session
+
+    def end(self) -> None:
+        """Ends the program."""
+        if self._session is not None:
+            self._session.end()
 
     def paths(self) -> list[str]:
         """Returns the files of the modules, in order."""

@@ -131,6 +131,16 @@ def _token(found: re.Match[str]) -> Token:
     return Token(kind, found[0], found.start(), found.end())
 
 
+def name_of(text: str) -> str | None:
+    """Returns the name that a module gives itself.
+
+    >>> name_of("// of lists\\nmodule lists strategies f = id"), name_of("rules")
+    ('lists', None)
+    """
+    first = [it for it, _ in zip((it for it in _TOKEN.finditer(text) if it.lastgroup != "comment"), range(2))]
+    return first[1][0] if len(first) == 2 and first[0][0] == "module" and first[1].lastgroup == "name" else None
+
+
 def read(text: str) -> Module:
     """Reads the text of a module."""
     every = tokens_of(text)

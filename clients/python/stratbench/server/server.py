@@ -40,6 +40,10 @@ _CAPABILITIES: Final = {
 }
 
 
+# What may be wrong with the program or the settings.
+_WRONG: Final = (OSError, EOFError, subprocess.SubprocessError, BadSettings)
+
+
 class Refused(Exception):
     """A request that can't be met, and why."""
 
@@ -78,6 +82,8 @@ class Server:
             message = messages.get()
             if message is None or message.get("method") == "exit":
                 reading.join()
+                for folder in self.folders.values():
+                    folder.end()
                 return 0 if self.has_ended else 1
             self.take(message)
 
@@ -96,7 +102,7 @@ class Server:
                 reply["error"] = {"code": _NOT_BEGUN, "message": "it isn't initialized"}
             else:
                 reply["result"] = _REQUESTS[method](self, given)
-        except (Refused, BadSettings) as why:
+        except (Refused, *_WRONG) as why:
             reply["error"] = {"code": _FAILED, "message": str(why)}
         send(self.out, reply)
 
@@ -145,7 +151,7 @@ class Server:
             try:
                 found = faults.faults_of(folder, own)
                 self.add_unused(folder, own, found)
-            except (OSError, subprocess.SubprocessError, BadSettings) as why:
+            except _WRONG as why:
                 self.tell("window/showMessage", {"type": 1, "message": f"stratbench: {why}"})
                 continue
             self.publish(name, found)

@@ -6,9 +6,11 @@ import bisect
 import os
 import urllib.parse
 import urllib.request
+from functools import cached_property
 from typing import Any
 
 from . import reading
+from .checking import Sent
 
 
 def path_of(uri: str) -> str:
@@ -34,14 +36,16 @@ class Text:
         self.starts = [0]
         for line in self.lines[:-1]:
             self.starts.append(self.starts[-1] + len(line) + 1)
-        self._module: reading.Module | None = None
 
-    @property
+    @cached_property
     def module(self) -> reading.Module:
         """What stands in it."""
-        if self._module is None:
-            self._module = reading.read(self.text)
-        return self._module
+        return reading.read(self.text)
+
+    @cached_property
+    def sent(self) -> Sent:
+        """What the program is sent."""
+        return Sent(self.text)
 
     def position(self, place: int) -> dict[str, int]:
         """Returns the position of a character.
@@ -51,6 +55,11 @@ class Text:
         """
         line = bisect.bisect_right(self.starts, place) - 1
         return {"line": line, "character": _units(self.text[self.starts[line] : place])}
+
+    def line_and_column(self, place: int) -> tuple[int, int]:
+        """Returns the line and the column of a character, both counted from 1."""
+        line = bisect.bisect_right(self.starts, place)
+        return line, place - self.starts[line - 1] + 1
 
     def place(self, position: dict[str, int]) -> int:
         """Returns the character at a position; one outside of the text is the nearest.

@@ -3,18 +3,14 @@
 from __future__ import annotations
 
 import re
-import subprocess
 from collections.abc import Iterator
 from typing import Final, NamedTuple
 
-from ..diagnostics import parsed
-from .faults import with_files
+from .faults import faults_of
 from .folder import Folder
 from .texts import Text
 
 _TRIAL: Final = re.compile(r"// *(?:>|example:) *(?P<strategy>.+) on (?P<term>.+?)(?: (?P<wanted>gives .+|fails))? *$")
-# How long the program may take.
-_SECONDS: Final = 20
 
 
 class Trial(NamedTuple):
@@ -40,13 +36,6 @@ def trials(text: Text) -> Iterator[Trial]:
 
 def outcome(folder: Folder, own: str, strategy: str, term: str) -> tuple[bool, str]:
     """Returns whether a strategy gives a term of a term, with the modules of the folder, and which, or what is said of it."""
-    script = f"tree t {term}\napply t do {strategy}\nshow t\n"
-    with with_files(folder, own) as (words, _):
-        ran = subprocess.run(
-            [folder.program, "--lines", "--explain=json", *words], input=script.encode(), stdout=subprocess.PIPE, stderr=subprocess.PIPE, timeout=_SECONDS
-        )
-    lines = ran.stdout.decode(errors="replace").splitlines()
-    if lines[:2] == ["ok", "ok"]:
-        return True, lines[2]
-    said = [it for it in parsed(ran.stderr.decode(errors="replace")) if it.severity == "refusal"]
-    return False, "\n".join(f"{it.answer}: {it.told()}" for it in said[:1]) or ran.stderr.decode(errors="replace")
+    faults_of(folder, own)
+    gives, text, said = folder.session.outcome(strategy, term)
+    return gives, text if gives else "\n".join(f"{it.diagnostic.answer}: {it.diagnostic.told()}" for it in said[:1])
