@@ -214,17 +214,22 @@ def answered(room, files, terms):
     return ran.stdout + ran.stderr
 
 
+def with_examples(top, room):
+    """Copies the modules into a folder, with one that has their examples. Returns the files, and the terms of the examples."""
+    files = [shutil.copy(it, room) for it in general(top)]
+    examples = [it for file in files for it in EXAMPLE.findall(contents(file))]
+    text = "strategies\n" + "".join(f"  example-{n} = {s}\n" for n, (s, _) in enumerate(examples))
+    used = {(it.name, it.strategies) for it in reading.read(text).names if it.kind in ("constructor", "use") and it.name[0].isupper()}
+    declared = [f"  {name} : {' * '.join('t' * count)}{' -> ' * (count > 0)}t\n" for name, count in sorted(used)]
+    files.append(written(room, "examples.str", "module examples signature constructors\n" + "".join(declared) + text))
+    return files, [term for _, term in examples]
+
+
 def names_change(top):
     """A hundred names of the modules are changed, one after the other, in all of them and in their examples."""
     choose = random.Random(1)
     with tempfile.TemporaryDirectory() as room:
-        files = [shutil.copy(it, room) for it in general(top)]
-        examples = [it for file in files for it in EXAMPLE.findall(contents(file))]
-        text = "strategies\n" + "".join(f"  example-{n} = {s}\n" for n, (s, _) in enumerate(examples))
-        used = {(it.name, it.strategies) for it in reading.read(text).names if it.kind in ("constructor", "use") and it.name[0].isupper()}
-        declared = [f"  {name} : {' * '.join('t' * count)}{' -> ' * (count > 0)}t\n" for name, count in sorted(used)]
-        files.append(written(room, "examples.str", "module examples signature constructors\n" + "".join(declared) + text))
-        terms = [term for _, term in examples]
+        files, terms = with_examples(top, room)
         before = answered(room, files, terms)
         folder = Folder(room, {}, os.environ["STRATBENCH"])
         every = [(file, it) for file in files for it in folder.text(file).module.names if not file.endswith("examples.str")]
@@ -233,9 +238,10 @@ def names_change(top):
         done, faults = 0, []
         for number, (file, name) in enumerate(every):
             new = f"new-name-{number}"
-            if answers.refusal(folder, file, name, new):
+            modules = folder.modules(file)
+            if answers.refusal(modules, name, new):
                 continue
-            edits = answers.rename(folder, file, name, new)["changes"]
+            edits = answers.rename(modules, name, new)["changes"]
             old = {path_of(uri): contents(path_of(uri)) for uri in edits}
             for uri, its in edits.items():
                 written(room, path_of(uri), changed(folder.text(path_of(uri)), its))
@@ -301,6 +307,15 @@ def layouts(top):
             if plain[0] != plain[1] or comments[0] != comments[1] or layout.laid_out(new) != new:
                 faults.append(file)
     yield f"the layout of {len(files)} modules", "\n".join(faults)
+    with tempfile.TemporaryDirectory() as room:
+        files, terms = with_examples(top, room)
+        before = answered(room, files, terms)
+        new = [layout.laid_out(re.sub(r"\n *", lambda it: "\n" + " " * choose.randrange(9), contents(it))) for it in files]
+        stayed = [file for file, text in zip(files, new) if contents(file) == text]
+        for file, text in zip(files, new):
+            written(room, file, text)
+        wrong = "" if len(stayed) < len(files) and answered(room, files, terms) == before else f"{stayed}\n{answered(room, files, terms)}"
+        yield f"laid out, {len(files)} modules answer {len(terms)} examples as before", wrong
 
 
 def read_all(top):

@@ -9,7 +9,6 @@ from typing import Any, Final, Optional
 from ..diagnostics import Diagnostic, Label, Sentence
 from .checking import Said
 from .folder import Folder
-from .reading import name_of
 from .texts import Text, uri_of
 
 ERROR: Final = 1
@@ -22,7 +21,7 @@ def names_of(folder: Folder, paths: list[str]) -> dict[str, str]:
     found: dict[str, str] = {}
     for number, path in enumerate(paths):
         stem = os.path.basename(path).removesuffix(".str")
-        for name in (name_of(folder.text(path).text), stem):
+        for name in (folder.text(path).name, stem):
             if name and _NAME.fullmatch(name) and name not in found:
                 found[name] = path
                 break

@@ -10,7 +10,7 @@ from collections.abc import Iterator
 from typing import Any, Final
 
 from .checking import Session
-from .reading import Constructor, Definition, Module
+from .reading import Constructor, Definition, Name
 from .texts import Text
 
 SETTINGS: Final = "stratbench.json"
@@ -96,22 +96,35 @@ class Folder:
             self._library = Text(ran.stdout.decode(errors="replace"))
         return self._library
 
-    def modules(self, own: str) -> Iterator[tuple[str, Text, Module]]:
-        """Yields the modules, that of a file first, each with its file; the library comes last, and has none."""
-        for path in [own, *(it for it in self.paths() if it != own)]:
-            text = self.text(path)
-            yield path, text, text.module
-        if self.has_library():
-            yield "", self.library(), self.library().module
+    def modules(self, own: str) -> Modules:
+        """Returns the modules as they are now, that of a file first; the library comes last."""
+        paths = [own, *(it for it in self.paths() if it != own)]
+        return Modules(own, [*((it, self.text(it)) for it in paths), *[("", self.library())] * self.has_library()])
 
-    def definitions(self, own: str) -> Iterator[tuple[str, Text, Definition]]:
+
+class Modules:
+    """Modules, each with its file; the library has none. What a name stands for in each of them is found once for its text."""
+
+    def __init__(self, own: str, texts: list[tuple[str, Text]]) -> None:
+        self.own = own
+        self.texts = texts
+
+    def definitions(self) -> Iterator[tuple[str, Text, Definition]]:
         """Yields all definitions."""
-        for path, text, module in self.modules(own):
-            for it in module.definitions:
-                yield path, text, it
+        return ((path, text, it) for path, text in self.texts for it in text.module.definitions)
 
-    def constructors(self, own: str) -> Iterator[tuple[str, Text, Constructor]]:
+    def constructors(self) -> Iterator[tuple[str, Text, Constructor]]:
         """Yields all declarations of constructors."""
-        for path, text, module in self.modules(own):
-            for it in module.constructors:
-                yield path, text, it
+        return ((path, text, it) for path, text in self.texts for it in text.module.constructors)
+
+    def defining(self, key: tuple[str, int, int]) -> list[tuple[str, Text, Definition]]:
+        """Returns the definitions of a name with these numbers of parameters."""
+        return [(path, text, it) for path, text in self.texts for it in text.module.by_key.get(key, ())]
+
+    def declaring(self, name: str, terms: int) -> list[tuple[str, Text, Constructor]]:
+        """Returns the declarations of a constructor with so many terms."""
+        return [(path, text, it) for path, text in self.texts for it in text.module.declared.get((name, terms), ())]
+
+    def named(self, name: str) -> Iterator[tuple[str, Text, Name]]:
+        """Yields all places of a name."""
+        return ((path, text, it) for path, text in self.texts for it in text.module.by_name.get(name, ()))

@@ -14,9 +14,13 @@ program itself says what is wrong.
 
 from __future__ import annotations
 
+import bisect
+import itertools
 import re
-from collections.abc import Callable
-from typing import Final, NamedTuple
+from collections.abc import Callable, Iterable, Iterator
+from dataclasses import dataclass
+from functools import cached_property
+from typing import Final, NamedTuple, TypeVar
 
 RESERVED: Final = frozenset(
     "module signature sorts constructors rules strategies id fail all one some not where test if then else end rec prim".split()
@@ -51,6 +55,11 @@ class Name(NamedTuple):
     strategies: int = 0
     terms: int = 0
     is_binding: bool = False
+
+    @property
+    def key(self) -> tuple[str, int, int]:
+        """What tells the definition that it may be a use of from others."""
+        return self.name, self.strategies, self.terms
 
 
 class Definition(NamedTuple):
@@ -100,7 +109,8 @@ class Section(NamedTuple):
     end: int
 
 
-class Module(NamedTuple):
+@dataclass(frozen=True)
+class Module:
     """What stands in a text."""
 
     name: str | None
@@ -113,6 +123,53 @@ class Module(NamedTuple):
     def name_at(self, place: int) -> Name | None:
         """Returns the name at a place, or one that ends there."""
         return next((it for it in self.names if it.begin <= place <= it.end), None)
+
+    def definition_at(self, place: int) -> Definition | None:
+        """Returns the definition at a place."""
+        return next((it for it in self.definitions if it.begin <= place < it.end), None)
+
+    def within(self, it: Definition) -> Iterator[Name]:
+        """Yields the names in a definition."""
+        first = bisect.bisect_left(self._begins, it.begin)
+        return itertools.takewhile(lambda name: name.begin < it.end, itertools.islice(self.names, first, None))
+
+    @cached_property
+    def by_key(self) -> dict[tuple[str, int, int], list[Definition]]:
+        """The definitions by what tells them from others."""
+        return _grouped((it.key, it) for it in self.definitions)
+
+    @cached_property
+    def declared(self) -> dict[tuple[str, int], list[Constructor]]:
+        """The declarations by what they declare."""
+        return _grouped((it.key, it) for it in self.constructors)
+
+    @cached_property
+    def by_name(self) -> dict[str, list[Name]]:
+        """The places of each name."""
+        return _grouped((it.name, it) for it in self.names)
+
+    @cached_property
+    def calls(self) -> dict[tuple[str, int, int], set[tuple[str, int, int]]]:
+        """What each definition uses, by its name and its numbers of arguments."""
+        found: dict[tuple[str, int, int], set[tuple[str, int, int]]] = {}
+        for it in self.definitions:
+            found.setdefault(it.key, set()).update(use.key for use in self.within(it) if use.kind == "use")
+        return found
+
+    @cached_property
+    def _begins(self) -> list[int]:
+        return [it.begin for it in self.names]
+
+
+_Key = TypeVar("_Key")
+_Value = TypeVar("_Value")
+
+
+def _grouped(pairs: Iterable[tuple[_Key, _Value]]) -> dict[_Key, list[_Value]]:
+    found: dict[_Key, list[_Value]] = {}
+    for key, it in pairs:
+        found.setdefault(key, []).append(it)
+    return found
 
 
 def tokens_of(text: str) -> list[Token]:

@@ -11,7 +11,7 @@ from collections.abc import Callable, Sequence
 from typing import IO, Any, Final
 
 from . import answers, faults, layout, trying
-from .folder import BadSettings, Folder, settings_of
+from .folder import BadSettings, Folder, Modules, settings_of
 from .messages import receive, send
 from .reading import Name
 from .texts import Text, path_of, uri_of
@@ -160,13 +160,11 @@ class Server:
         entries = settings_of(folder.folder)[1].get("entries")
         if entries is None:
             return
-        for path in found:
-            text = folder.text(path)
-            for it in answers.unused(folder, path, entries):
-                found[path].append({
-                    "range": text.range(it.at, it.at + len(it.name)), "severity": _HINT, "code": "unused", "source": "stratbench",
-                    "message": f"nothing calls `{it.head}`", "tags": [_UNNECESSARY],
-                })  # fmt: skip
+        for path, text, it in answers.unused(folder.modules(own), entries):
+            found[path].append({
+                "range": text.range(it.at, it.at + len(it.name)), "severity": _HINT, "code": "unused", "source": "stratbench",
+                "message": f"nothing calls `{it.head}`", "tags": [_UNNECESSARY],
+            })  # fmt: skip
 
     def publish(self, name: str, found: dict[str, list[dict[str, Any]]]) -> None:
         """Publishes the diagnostics of files, and takes those away that the folder had before."""
@@ -189,63 +187,63 @@ class Server:
     def shutdown(self, given: dict[str, Any]) -> None:
         self.has_ended = True
 
-    def at(self, given: dict[str, Any]) -> tuple[Folder, str, Text, int]:
-        """The folder, the file, its text and the place that a request names."""
+    def at(self, given: dict[str, Any]) -> tuple[Modules, Text, int]:
+        """The modules that a request is about, that of its file first, with its text and the place that it names."""
         path = path_of(given["textDocument"]["uri"])
-        folder = self.folder(path)
-        text = folder.text(path)
-        return folder, path, text, text.place(given["position"]) if "position" in given else 0
+        modules = self.folder(path).modules(path)
+        text = modules.texts[0][1]
+        return modules, text, text.place(given["position"]) if "position" in given else 0
 
-    def name_at(self, given: dict[str, Any]) -> tuple[Folder, str, Name | None]:
-        folder, path, text, place = self.at(given)
-        return folder, path, text.module.name_at(place)
+    def name_at(self, given: dict[str, Any]) -> tuple[Modules, Name | None]:
+        modules, text, place = self.at(given)
+        return modules, text.module.name_at(place)
 
     def definition(self, given: dict[str, Any]) -> list[dict[str, Any]]:
-        folder, path, name = self.name_at(given)
-        return answers.definition(folder, path, name) if name else []
+        modules, name = self.name_at(given)
+        return answers.definition(modules, name) if name else []
 
     def references(self, given: dict[str, Any]) -> list[dict[str, Any]]:
-        folder, path, name = self.name_at(given)
-        return answers.references(folder, path, name, given["context"]["includeDeclaration"]) if name else []
+        modules, name = self.name_at(given)
+        return answers.references(modules, name, given["context"]["includeDeclaration"]) if name else []
 
     def highlights(self, given: dict[str, Any]) -> list[dict[str, Any]]:
-        folder, path, name = self.name_at(given)
-        return answers.highlights(folder, path, name) if name else []
+        modules, name = self.name_at(given)
+        return answers.highlights(modules, name) if name else []
 
     def hover(self, given: dict[str, Any]) -> dict[str, Any] | None:
-        folder, path, name = self.name_at(given)
-        return answers.hover(folder, path, name) if name else None
+        modules, name = self.name_at(given)
+        return answers.hover(modules, name) if name else None
 
     def completion(self, given: dict[str, Any]) -> list[dict[str, Any]]:
-        folder, path, _, place = self.at(given)
-        return answers.completions(folder, path, place)
+        modules, _, place = self.at(given)
+        return answers.completions(modules, place)
 
     def signature(self, given: dict[str, Any]) -> dict[str, Any] | None:
-        folder, path, _, place = self.at(given)
-        return answers.signature(folder, path, place)
+        modules, _, place = self.at(given)
+        return answers.signature(modules, place)
 
     def prepare_rename(self, given: dict[str, Any]) -> dict[str, Any] | None:
-        folder, path, name = self.name_at(given)
+        modules, name = self.name_at(given)
         if not name:
             return None
-        why = answers.refusal(folder, path, name, name.name + "'")
+        why = answers.refusal(modules, name, name.name + "'")
         if why:
             raise Refused(why)
-        return {"range": folder.text(path).range(name.begin, name.end), "placeholder": name.name}
+        return {"range": modules.texts[0][1].range(name.begin, name.end), "placeholder": name.name}
 
     def rename(self, given: dict[str, Any]) -> dict[str, Any] | None:
-        folder, path, name = self.name_at(given)
+        modules, name = self.name_at(given)
         if not name:
             return None
         if name.name == given["newName"]:
             return {"changes": {}}
-        why = answers.refusal(folder, path, name, given["newName"])
+        why = answers.refusal(modules, name, given["newName"])
         if why:
             raise Refused(why)
-        return answers.rename(folder, path, name, given["newName"])
+        return answers.rename(modules, name, given["newName"])
 
     def symbols(self, given: dict[str, Any]) -> list[dict[str, Any]]:
-        return answers.symbols(self.at(given)[2])
+        return answers.symbols(self.at(given)[1])
 
     def workspace_symbols(self, given: dict[str, Any]) -> list[dict[str, Any]]:
         found = []
@@ -259,22 +257,22 @@ class Server:
         return found
 
     def folds(self, given: dict[str, Any]) -> list[dict[str, Any]]:
-        return answers.folds(self.at(given)[2])
+        return answers.folds(self.at(given)[1])
 
     def semantic_tokens(self, given: dict[str, Any]) -> dict[str, Any]:
-        return {"data": answers.semantic_tokens(self.at(given)[2])}
+        return {"data": answers.semantic_tokens(self.at(given)[1])}
 
     def formatting(self, given: dict[str, Any]) -> list[dict[str, Any]]:
-        text = self.at(given)[2]
+        text = self.at(given)[1]
         new = layout.laid_out(text.text)
         return [] if new == text.text else [{"range": text.range(0, len(text.text)), "newText": new}]
 
     def lenses(self, given: dict[str, Any]) -> list[dict[str, Any]]:
-        _, path, text, _ = self.at(given)
+        modules, text, _ = self.at(given)
         return [
             {
                 "range": text.range(it.begin, it.end),
-                "command": {"title": "Try it", "command": "stratbench.try", "arguments": [path, it.strategy, it.term]},
+                "command": {"title": "Try it", "command": "stratbench.try", "arguments": [modules.own, it.strategy, it.term]},
             }
             for it in trying.trials(text)
         ]

@@ -43,6 +43,11 @@ class Text:
         return reading.read(self.text)
 
     @cached_property
+    def name(self) -> str | None:
+        """The name that the module gives itself."""
+        return reading.name_of(self.text)
+
+    @cached_property
     def sent(self) -> Sent:
         """What the program is sent."""
         return Sent(self.text)
