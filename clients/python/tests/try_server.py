@@ -32,10 +32,10 @@ MEDIAN, MOST = 50, 200
 class Editor:
     """An editor that speaks to the server."""
 
-    def __init__(self, room=None):
+    def __init__(self, **more):
         environment = {**os.environ, "PYTHONPATH": CLIENT}
         words = [sys.executable, "-m", "stratbench.server"]
-        self.server = subprocess.Popen(words, stdin=subprocess.PIPE, stdout=subprocess.PIPE, env=environment, cwd=room)
+        self.server = subprocess.Popen(words, stdin=subprocess.PIPE, stdout=subprocess.PIPE, env=environment, **more)
         self.number = 0
         self.told = {}
         self.ask("initialize", processId=None, rootUri=None, capabilities={})
@@ -507,8 +507,13 @@ def ends():
         if how == "exit":
             editor.server.stdin.close()
         editor.server.stdout.close()
+    editor = Editor(stderr=subprocess.PIPE)
+    editor.server.stdout.close()
+    editor.open("/none/m.str", "strategies f = g")
+    _, said = editor.server.communicate(timeout=60)
+    yield "nobody reads the answer", "" if editor.server.returncode == 1 and not said else f"{editor.server.returncode} {said}"
     with tempfile.TemporaryDirectory() as room:
-        editor = Editor(room)
+        editor = Editor(cwd=room)
         editor.open(os.path.join(room, "m.str"), "strategies f = g")
         editor.diagnostics(os.path.join(room, "m.str"))
         editor.server.kill()

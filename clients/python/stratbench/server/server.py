@@ -76,16 +76,18 @@ class Server:
 
         reading = threading.Thread(target=read)
         reading.start()
-        while True:
-            if self.dirty and messages.empty():
-                self.look()
-            message = messages.get()
-            if message is None or message.get("method") == "exit":
-                reading.join()
-                for folder in self.folders.values():
-                    folder.end()
-                return 0 if self.has_ended else 1
-            self.take(message)
+        try:
+            message: dict[str, Any] | None = {}
+            while message is not None and message.get("method") != "exit":
+                self.take(message)
+                if self.dirty and messages.empty():
+                    self.look()
+                message = messages.get()
+        finally:
+            for folder in self.folders.values():
+                folder.end()
+        reading.join()
+        return 0 if self.has_ended else 1
 
     def take(self, message: dict[str, Any]) -> None:
         """Answers a message."""
@@ -326,4 +328,9 @@ def main(words: Sequence[str]) -> int:
     if words and list(words) != ["--stdio"]:
         print(f"usage: python -m stratbench.server [--stdio]\n\n{__package__}: the language server for modules", file=sys.stderr)
         return 2
-    return Server(sys.stdout.buffer, os.environ.get("STRATBENCH") or "stratbench").run(sys.stdin.buffer)
+    try:
+        return Server(sys.stdout.buffer, os.environ.get("STRATBENCH") or "stratbench").run(sys.stdin.buffer)
+    except BrokenPipeError:
+        # the editor is gone, and nobody reads what is left to be written
+        os.dup2(os.open(os.devnull, os.O_WRONLY), sys.stdout.fileno())
+        return 1
