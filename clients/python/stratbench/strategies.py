@@ -5,6 +5,9 @@
     >>> it = strategy("try(?Name(x,_)); all(fail)")
     >>> it, it.parts, it.parts[0].parts[0].patterns
     (seq, (call, all), (Name(x,_),))
+    >>> strategy('!"\\\\q"')
+    Traceback (most recent call last):
+    stratbench.strategies.NoStrategy: a wrong escape in a string
 """
 
 from __future__ import annotations
@@ -12,15 +15,14 @@ from __future__ import annotations
 import re
 from typing import Final, Literal, NamedTuple
 
-from .terms import LIST, TUPLE, read
+from .terms import LIST, TUPLE, NoTerm, read
 
-_TOKEN: Final = re.compile(
-    r"\s+|//[^\n]*|/\*.*?\*/"
-    r'|(?P<string>"(?:\\.|[^"\\])*")'
-    r"|(?P<word>[A-Za-z_](?:[A-Za-z0-9_']|-(?!>))*)"
-    r"|(?P<number>-?[0-9]+)"
-    r"|(?P<sign>=>|->|<\+|[()\[\]{},;:|=<>+*?!@\\])",
-    re.DOTALL,
+# The groups of a pattern that say what a token is.
+WORDS: Final = r"(?P<word>[A-Za-z_](?:[A-Za-z0-9_']|-(?!>))*)|(?P<number>-?[0-9]+)|(?P<sign>=>|->|<\+|[()\[\]{},;:|=<>+*?!@\\])"
+_TOKEN: Final = re.compile(rf"""\s+|//[^\n]*|/\*.*?\*/|(?P<string>"(?:\\.|[^"\\])*")|{WORDS}""", re.DOTALL)
+# The words that are no names.
+RESERVED: Final = frozenset(
+    "module signature sorts constructors rules strategies id fail all one some not where test if then else end rec prim".split()
 )
 # The name of a list with a tail.
 TAIL: Final = "[|]"
@@ -93,7 +95,8 @@ def definitions(text: str) -> Definitions:
 
 
 class Reader:
-    """The tokens of a text, which are taken one after the other. The end is an empty one. `_spans` are their places."""
+    """The tokens of a text, which are taken one after the other. The end is an empty one. `_spans` are their places. A method for each form
+    reads it after its first token, so that another reader can know of it."""
 
     def __init__(self, text: str, token: re.Pattern[str] = _TOKEN) -> None:
         self._tokens: list[tuple[str, str]] = []
@@ -104,12 +107,15 @@ class Reader:
             if found is None:
                 raise NoStrategy(f"no token: {text[at : at + 20]}", at)
             if found.lastgroup:
-                self._tokens.append((found.lastgroup, found.group()))
-                self._spans.append(found.span())
+                self._scanned(found)
             at = found.end()
         self._tokens.append(("end", ""))
         self._spans.append((at, at))
         self._at = 0
+
+    def _scanned(self, found: re.Match[str]) -> None:
+        self._tokens.append((found.lastgroup or "", found.group()))
+        self._spans.append(found.span())
 
     @property
     def _next(self) -> str:
@@ -138,7 +144,7 @@ class Reader:
         return True
 
     def _word(self) -> str:
-        if self._kind != "word":
+        if self._kind != "word" or self._next in RESERVED:
             raise self._wrong(f"no name: {self._next}")
         return self.take()
 
@@ -160,18 +166,25 @@ class Reader:
 
     def _definition(self) -> tuple[str, Definition]:
         name = self._word()
-        strategies: list[str] = []
-        terms: list[str] = []
+        strategies, terms = (tuple(self._tokens[at][1] for at in found) for found in self._header())
+        return name, Definition(strategies, terms, self._body())
+
+    # The tokens of the parameters for strategies and for terms.
+    def _header(self) -> tuple[list[int], list[int]]:
+        strategies: list[int] = []
+        terms: list[int] = []
         if self._taken("("):
-            names = strategies
+            found = strategies
             while not self._taken(")"):
                 if self._taken("|"):
-                    names = terms
+                    found = terms
                 elif not self._taken(","):
-                    names.append(self._word())
-        if self.take("=", ":") == "=":
-            return name, Definition(tuple(strategies), tuple(terms), self.strategy())
-        return name, Definition(tuple(strategies), tuple(terms), self._rule())
+                    found.append(self._at)
+                    self._word()
+        return strategies, terms
+
+    def _body(self) -> Strategy:
+        return self.strategy() if self.take("=", ":") == "=" else self._rule()
 
     def _rule(self) -> Strategy:
         left = self._pattern()
@@ -180,20 +193,35 @@ class Reader:
         return Strategy("rule", "", (self.strategy(),) if self._taken("where") else (), (left, right))
 
     def strategy(self) -> Strategy:
-        first = self._sequence()
-        if self._taken("<+"):
-            return Strategy("choice", "", (first, self.strategy()))
-        if self._taken("<"):
-            then = self._sequence()
-            self.take("+")
-            return Strategy("guard", "", (first, then, self.strategy()))
-        return first
+        before: list[tuple[str, tuple[Strategy, ...]]] = []
+        while True:
+            last = self._sequence()
+            if self._taken("<+"):
+                before.append(("choice", (last,)))
+            elif self._taken("<"):
+                then = self._sequence()
+                self.take("+")
+                before.append(("guard", (last, then)))
+            else:
+                break
+        for kind, parts in reversed(before):
+            last = Strategy(kind, "", (*parts, last))
+        return last
 
     def _sequence(self) -> Strategy:
+        steps = [self._step()]
+        while self._taken(";"):
+            steps.append(self._step())
+        last = steps.pop()
+        for it in reversed(steps):
+            last = Strategy("seq", "", (it, last))
+        return last
+
+    def _step(self) -> Strategy:
         first = self._primary()
         while self._taken("=>"):
             first = Strategy("then", "", (first,), (self._pattern(),))
-        return Strategy("seq", "", (first, self._sequence())) if self._taken(";") else first
+        return first
 
     def _primary(self) -> Strategy:
         kind = self._kind
@@ -209,14 +237,9 @@ class Reader:
             self.take(">")
             return Strategy("applied", "", (inner,), (self._pattern(),))
         if token == "\\":
-            rule = self._rule()
-            self.take("\\")
-            return rule._replace(kind="closure")
+            return self._closure()
         if token == "{":
-            variables = self._terms(":")
-            inner = self.strategy()
-            self.take("}")
-            return Strategy("scope", "", (inner,), variables)
+            return self._scope()
         if token == "[":
             return self._list()
         if token == "(":
@@ -225,6 +248,29 @@ class Reader:
         if kind == "word":
             return self._named(token)
         raise self._wrong(f"no strategy begins with {token}", 1)
+
+    def _closure(self) -> Strategy:
+        rule = self._rule()
+        self.take("\\")
+        return rule._replace(kind="closure")
+
+    def _scope(self) -> Strategy:
+        variables = self._listed()
+        inner = self.strategy()
+        self.take("}")
+        return Strategy("scope", "", (inner,), variables)
+
+    # The variables of a scope.
+    def _listed(self) -> tuple[Pattern, ...]:
+        return self._terms(":")
+
+    def _rec(self) -> Strategy:
+        return Strategy("rec", self._word(), (self._in_brackets(),))
+
+    def _prim(self) -> Strategy:
+        self.take("(")
+        name = self.take()
+        return Strategy("prim", name, (), self._terms())
 
     def _in_brackets(self) -> Strategy:
         self.take("(")
@@ -265,14 +311,11 @@ class Reader:
             self.take("end")
             return Strategy("guard", "", (Strategy("where", "", (first,)), then, other))
         if name == "rec":
-            return Strategy("rec", self._word(), (self._in_brackets(),))
-        if name in ("then", "else", "end", "where", "prim"):
-            if name != "prim":
-                raise self._wrong(f"no strategy begins with {name}", 1)
-            self.take("(")
-            self.take()
-            self._terms()
-            return Strategy("prim")
+            return self._rec()
+        if name == "prim":
+            return self._prim()
+        if name in RESERVED:
+            raise self._wrong(f"no strategy begins with {name}", 1)
         parts: list[Strategy] = []
         terms: tuple[Pattern, ...] = ()
         if self._taken("("):
@@ -297,15 +340,14 @@ class Reader:
         kind = self._kind
         token = self.take()
         if kind == "string":
-            head = read(token).head
-            found = Pattern("string", head if isinstance(head, bytes) else b"")
+            found = Pattern("string", self._content(token))
         elif kind == "number":
             found = Pattern("integer")
         elif token == "(":
             found = Pattern("constructor", TUPLE, self._terms())
         elif token == "[":
             found = self._list_pattern()
-        elif kind != "word":
+        elif kind != "word" or token in RESERVED:
             raise self._wrong(f"no pattern begins with {token}", 1)
         elif self._taken("("):
             found = Pattern("constructor", token, self._terms())
@@ -318,6 +360,14 @@ class Reader:
             # a variable is bound to the term without its annotations
             return Pattern("other") if found.kind == "variable" else Pattern("other", "", (found,))
         return found
+
+    # What a string is, which was just taken.
+    def _content(self, token: str) -> bytes:
+        try:
+            head = read(token).head
+        except NoTerm as error:
+            raise self._wrong(str(error), 1) from None
+        return head if isinstance(head, bytes) else b""
 
     def _list_pattern(self) -> Pattern:
         found: list[Pattern] = []

@@ -325,7 +325,7 @@ def read_all(top):
     for file in files:
         module = reading.read(contents(file))
         known = {it.begin for it in module.names}
-        faults += [f"{file}: {it.text} at {it.begin}" for it in module.tokens if it.kind == "name" and it.text != "_" and it.begin not in known]
+        faults += [f"{file}: {it.text} at {it.begin}" for it in module.tokens if it.kind == "word" and it.text != "_" and it.begin not in known]
     yield f"the names of {len(files)} modules", "\n".join(faults[:5])
 
 

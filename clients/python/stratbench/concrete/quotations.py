@@ -297,7 +297,7 @@ class _Reader(Reader):
             self._replace(quote, congruence)
         return Strategy("call", "congruence")
 
-    def _sequence(self) -> Strategy:
+    def _step(self) -> Strategy:
         first = self._primary()
         while self._taken("=>"):
             quotes, variables = len(self._quotes), len(self._variables)
@@ -308,7 +308,7 @@ class _Reader(Reader):
             conditions = self._match(mine) if not self._first and mine else Made()
             if conditions:
                 self._edits.append((self._end, self._end, put("; where({})", conditions)))
-        return Strategy("seq", "", (first, self._sequence())) if self._taken(";") else first
+        return first
 
     def _rule(self) -> Strategy:
         quotes, variables, left_at = len(self._quotes), len(self._variables), self._at

@@ -7,8 +7,9 @@ import re
 from collections.abc import Iterable, Iterator
 from typing import Any, Final
 
+from ..strategies import RESERVED
 from .folder import Modules
-from .reading import RESERVED, Constructor, Definition, Module, Name, tokens_of
+from .reading import Constructor, Definition, Module, Name, tokens_of
 from .texts import Text, uri_of
 
 # The kinds of the protocol.
@@ -20,7 +21,7 @@ _OF_NAMES: Final = {
     "definition": "function", "use": "function", "strategy": "parameter", "term": "parameter", "rec": "parameter", "variable": "variable",
     "constructor": "enumMember", "sort": "type", "module": "namespace", "primitive": "string",
 }  # fmt: skip
-_OF_TOKENS: Final = {"reserved": "keyword", "comment": "comment", "string": "string", "integer": "number", "sign": "operator"}
+_OF_TOKENS: Final = {"reserved": "keyword", "comment": "comment", "string": "string", "number": "number", "sign": "operator"}
 
 
 class Meant:
@@ -250,7 +251,7 @@ def signature(modules: Modules, place: int) -> dict[str, Any] | None:
         elif token.text in "([{":
             depth -= 1
             if depth < 0:
-                if token.text == "(" and number and tokens[number - 1].kind == "name":
+                if token.text == "(" and number and tokens[number - 1].kind == "word":
                     return _signatures(modules, tokens[number - 1].text, before)
                 depth = before = 0
         elif depth == 0 and (token.text == "," or token.text == "|" and tokens[number - 1].text != "("):

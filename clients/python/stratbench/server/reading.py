@@ -17,24 +17,24 @@ from __future__ import annotations
 import bisect
 import itertools
 import re
-from collections.abc import Callable, Iterable, Iterator
+from collections.abc import Iterable, Iterator
 from dataclasses import dataclass
 from functools import cached_property
-from typing import Final, NamedTuple, TypeVar
+from typing import Final, NamedTuple, Optional, TypeVar
 
-RESERVED: Final = frozenset(
-    "module signature sorts constructors rules strategies id fail all one some not where test if then else end rec prim".split()
-)
+from ..strategies import RESERVED, WORDS, NoStrategy, Pattern, Reader, Strategy
+from ..strategies import Definition as Read
+
 SECTIONS: Final = ("signature", "sorts", "constructors", "rules", "strategies")
+# Any text has these tokens. A string that isn't closed ends with its line, and a comment with the text.
 _TOKEN: Final = re.compile(
-    r"""(?P<comment>//[^\n]*|/\*.*?(?:\*/|\Z))|(?P<string>"(?:\\.|[^"\\\n])*"?)|(?P<name>[A-Za-z_](?:[A-Za-z0-9_']|-(?!>))*)"""
-    r"""|(?P<integer>-?[0-9]+)|(?P<sign>->|=>|<\+|[()\[\]{},;:|=<>+*?!@\\])|(?P<bad>\S)""",
-    re.DOTALL,
+    rf"""\s+|(?P<comment>//[^\n]*|/\*.*?(?:\*/|\Z))|(?P<string>"(?:\\.|[^"\\\n])*"?)|{WORDS}|(?P<bad>\S)""", re.DOTALL
 )
 
 
 class Token(NamedTuple):
-    """A token, from a place to one after it. Its kind is `reserved`, or the group of the pattern that it matches."""
+    """A token, from a place to one after it. Its kind is `reserved`, or the group of the pattern that it matches: `comment`, `string`, `word`,
+    `number`, `sign` or `bad`."""
 
     kind: str
     text: str
@@ -178,14 +178,12 @@ def tokens_of(text: str) -> list[Token]:
     >>> [it.text for it in tokens_of("f-x-->y // c")]
     ['f-x-', '->', 'y', '// c']
     """
-    return [_token(found) for found in _TOKEN.finditer(text)]
+    return [_token(found) for found in _TOKEN.finditer(text) if found.lastgroup]
 
 
 def _token(found: re.Match[str]) -> Token:
-    kind = found.lastgroup or "bad"
-    if kind == "name" and found[0] in RESERVED:
-        kind = "reserved"
-    return Token(kind, found[0], found.start(), found.end())
+    kind = found.lastgroup or ""
+    return Token("reserved" if kind == "word" and found[0] in RESERVED else kind, found[0], found.start(), found.end())
 
 
 def name_of(text: str) -> str | None:
@@ -194,23 +192,18 @@ def name_of(text: str) -> str | None:
     >>> name_of("// of lists\\nmodule lists strategies f = id"), name_of("rules")
     ('lists', None)
     """
-    first = [it for it, _ in zip((it for it in _TOKEN.finditer(text) if it.lastgroup != "comment"), range(2))]
-    return first[1][0] if len(first) == 2 and first[0][0] == "module" and first[1].lastgroup == "name" else None
+    first = [it for it, _ in zip((it for it in _TOKEN.finditer(text) if it.lastgroup not in (None, "comment")), range(2))]
+    return first[1][0] if len(first) == 2 and first[0][0] == "module" and first[1].lastgroup == "word" else None
 
 
 def read(text: str) -> Module:
     """Reads the text of a module."""
-    every = tokens_of(text)
-    reader = _Reader(text, every)
+    reader = _Reader(text)
     reader.read_module()
     return Module(
-        reader.name, tuple(every), tuple(reader.definitions), tuple(reader.constructors), tuple(reader.sections),
+        reader.name, tuple(reader.every), tuple(reader.found), tuple(reader.constructors), tuple(reader.sections),
         tuple(sorted(reader.names, key=lambda it: it.begin)),
     )  # fmt: skip
-
-
-class _Stuck(Exception):
-    """The text doesn't go on."""
 
 
 class _Scope(NamedTuple):
@@ -220,76 +213,75 @@ class _Scope(NamedTuple):
     listed: frozenset[str]
 
 
-class _Reader:
-    def __init__(self, text: str, every: list[Token]) -> None:
+class _Reader(Reader):
+    """Takes note of each name as it is read, so that those of a definition are known up to where it doesn't go on."""
+
+    def __init__(self, text: str) -> None:
         self.text = text
-        self.every = every
-        self.tokens = [it for it in every if it.kind != "comment"]
-        self.at = 0
+        # All tokens, and where those are among them that aren't comments.
+        self.every: list[Token] = []
+        self.places: list[int] = []
         self.name: str | None = None
-        self.definitions: list[Definition] = []
+        self.found: list[Definition] = []
         self.constructors: list[Constructor] = []
         self.sections: list[Section] = []
         self.names: list[Name] = []
-        # The scopes around this place, and the strategies that names may stand for here, with what tells them apart.
-        self.scopes: list[_Scope] = []
+        # The scopes around this place: none for that of a closure, until its left side was read.
+        self.scopes: list[Optional[_Scope]] = []
+        # The strategies that names may stand for here, and the term parameters, with what tells them apart.
         self.reach: list[tuple[str, tuple[str, ...]]] = []
         self.terms: dict[str, tuple[str, ...]] = {}
         self.count = 0
+        # The variables of the pattern that is being read, and how many patterns are open.
+        self.variables: list[int] = []
+        self.depth = 0
+        super().__init__(text, _TOKEN)
 
     # ---- tokens
 
-    def next(self, ahead: int = 0) -> str:
-        """The text of the next token; nothing at the end. A string or an integer has no text here, and a name begins with a letter or `_`."""
-        if self.at + ahead >= len(self.tokens):
-            return ""
-        token = self.tokens[self.at + ahead]
-        return token.text if token.kind in ("name", "reserved", "sign") else " "
+    def _scanned(self, found: re.Match[str]) -> None:
+        if found.lastgroup != "comment":
+            self.places.append(len(self.every))
+            super()._scanned(found)
+        self.every.append(_token(found))
 
-    def kind(self, ahead: int = 0) -> str:
-        return self.tokens[self.at + ahead].kind if self.at + ahead < len(self.tokens) else ""
+    def add(self, at: int, kind: str, stands_for: tuple[str, ...], strategies: int = 0, terms: int = 0, binding: bool = False) -> None:
+        """Takes note of the name that is the token of this number."""
+        begin, end = self._spans[at]
+        self.names.append(Name(self._tokens[at][1], begin, end, kind, stands_for, strategies, terms, binding))
 
-    def take(self, *wanted: str) -> Token:
-        """Takes the next token, which is one of these, or any name where none is wanted."""
-        if self.at >= len(self.tokens) or (self.next() not in wanted if wanted else self.kind() != "name"):
-            raise _Stuck
-        self.at += 1
-        return self.tokens[self.at - 1]
+    def new_number(self) -> int:
+        self.count += 1
+        return self.count
 
-    def has(self, *wanted: str) -> bool:
-        """Takes the next token if it is one of these."""
-        if self.next() not in wanted or not self.next():
-            return False
-        self.at += 1
-        return True
-
-    def add(self, token: Token, kind: str, stands_for: tuple[str, ...], strategies: int = 0, terms: int = 0, binding: bool = False) -> None:
-        self.names.append(Name(token.text, token.begin, token.end, kind, stands_for, strategies, terms, binding))
+    @property
+    def is_section(self) -> bool:
+        return self._kind == "word" and self._next in SECTIONS
 
     # ---- modules
 
     def read_module(self) -> None:
-        if self.has("module") and self.kind() == "name":
-            token = self.take()
-            self.name = token.text
-            self.add(token, "module", ("module", token.text), binding=True)
+        if self._taken("module") and self._kind == "word" and self._next not in RESERVED:
+            self.name = self._next
+            self.add(self._at, "module", ("module", self.name), binding=True)
+            self.take()
         word = ""
-        while self.at < len(self.tokens):
-            if self.next() in SECTIONS:
+        while self._kind != "end":
+            if self.is_section:
                 word = self.begin_section()
                 continue
-            before = self.at
+            before = self._at
             try:
                 self.read_item(word)
-            except _Stuck:
+            except (NoStrategy, RecursionError):
                 self.skip(before)
         self.end_section(len(self.text))
 
     def begin_section(self) -> str:
-        token = self.take(*SECTIONS)
-        self.end_section(token.begin)
-        self.sections.append(Section(token.text, token.begin, len(self.text)))
-        return token.text
+        begin = self._spans[self._at][0]
+        self.end_section(begin)
+        self.sections.append(Section(self._next, begin, len(self.text)))
+        return self.take()
 
     def end_section(self, end: int) -> None:
         if self.sections:
@@ -301,340 +293,179 @@ class _Reader:
         elif word == "constructors":
             self.read_constructor()
         elif word in ("rules", "strategies"):
-            self.read_definition()
+            self._definition()
         else:
-            raise _Stuck
+            raise self._wrong("no section is open")
 
     def skip(self, before: int) -> None:
         """Goes on at the next section, or at the next token that begins its line and a definition."""
-        self.at = max(self.at, before + 1)
-        while self.at < len(self.tokens) and not (self.begins_line() and (self.next() in SECTIONS or self.begins_header())):
-            self.at += 1
+        self._at = max(self._at, before + 1)
+        while self._kind != "end" and not (self.begins_line() and (self.is_section or self.begins_header())):
+            self._at += 1
 
     def begins_line(self) -> bool:
-        begin = self.tokens[self.at].begin
+        begin = self._spans[self._at][0]
         return not self.text[self.text.rfind("\n", 0, begin) + 1 : begin].strip()
 
     def begins_header(self) -> bool:
-        ahead = 1
-        if self.kind() != "name":
+        if self._kind != "word" or self._next in RESERVED:
             return False
-        if self.next(1) == "(":
-            while self.next(ahead) not in (")", ""):
+        ahead = self._at + 1
+        if self._tokens[ahead][1] == "(":
+            while self._tokens[ahead][1] not in (")", ""):
                 ahead += 1
-            ahead += 1
-        return self.next(ahead) in ("=", ":")
+            ahead = min(ahead + 1, len(self._tokens) - 1)
+        return self._tokens[ahead][1] in ("=", ":")
 
     # ---- signatures
 
     def read_sort(self) -> str:
-        token = self.take()
-        self.add(token, "sort", ("sort", token.text))
-        end = token.end
-        if self.has("("):
-            while not self.has(")"):
+        begin = self._at
+        self.add(begin, "sort", ("sort", self._word()))
+        if self._taken("("):
+            while not self._taken(")"):
                 self.read_sort()
-                self.has(",")
-            end = self.tokens[self.at - 1].end
-        return self.text[token.begin : end]
+                self._taken(",")
+        return self.text[self._spans[begin][0] : self.end]
 
     def read_constructor(self) -> None:
-        if self.has(":"):  # a sort whose terms are another's, too
+        if self._taken(":"):  # a sort whose terms are another's, too
             self.read_sort()
             self.take("->")
             self.read_sort()
             return
-        token = self.take()
+        at, name = self._at, self._word()
         self.take(":")
         sorts = [self.read_sort()]
-        while self.has("*"):
+        while self._taken("*"):
             sorts.append(self.read_sort())
-        if self.has("->"):
+        if self._taken("->"):
             own = self.read_sort()
         else:
             sorts, own = [], sorts[0]
-        self.add(token, "constructor", ("constructor", token.text, str(len(sorts))), len(sorts), binding=True)
-        self.constructors.append(Constructor(token.text, tuple(sorts), own, token.begin, self.tokens[self.at - 1].end))
+        self.add(at, "constructor", ("constructor", name, str(len(sorts))), len(sorts), binding=True)
+        self.constructors.append(Constructor(name, tuple(sorts), own, self._spans[at][0], self.end))
 
     # ---- definitions
 
-    def read_definition(self) -> None:
-        token, first = self.take(), self.at - 1
-        strategies, terms = self.read_parameters()
+    @property
+    def end(self) -> int:
+        """Where the token before this one ends."""
+        return self._spans[self._at - 1][1]
+
+    def _definition(self) -> tuple[str, Read]:
+        at, name = self._at, self._word()
+        strategies, terms = ([(self._tokens[it][1], it) for it in found] for found in self._header())
+        self.add(at, "definition", ("definition", name, str(len(strategies)), str(len(terms))), len(strategies), len(terms), True)
         number = str(self.new_number())
-        key = ("definition", token.text, str(len(strategies)), str(len(terms)))
-        self.add(token, "definition", key, len(strategies), len(terms), True)
-        self.reach = [(it.text, ("strategy", number, it.text)) for it in strategies]
-        self.terms = {it.text: ("term", number, it.text) for it in terms}
-        for it in strategies:
-            self.add(it, "strategy", ("strategy", number, it.text), binding=True)
-        for it in terms:
-            self.add(it, "term", self.terms[it.text], binding=True)
+        self.reach = [(it, ("strategy", number, it)) for it, _ in strategies]
+        self.terms = {it: ("term", number, it) for it, _ in terms}
+        for it, place in strategies:
+            self.add(place, "strategy", ("strategy", number, it), binding=True)
+        for it, place in terms:
+            self.add(place, "term", self.terms[it], binding=True)
         self.scopes = [_Scope(self.new_number(), frozenset())]
-        place = len(self.definitions)
-        self.definitions.append(
-            Definition(token.text, tuple(it.text for it in strategies), tuple(it.text for it in terms), self.next() == ":", token.begin, token.begin,
-                       token.end, self.comment_before(first))
-        )  # fmt: skip
+        self.variables, self.depth = [], 0
+        begin, end = self._spans[at]
+        own, others = tuple(it for it, _ in strategies), tuple(it for it, _ in terms)
+        self.found.append(Definition(name, own, others, self._next == ":", begin, begin, end, self.comment_before(at)))
         try:
-            if self.take("=", ":").text == "=":
-                self.read_choice()
-            else:
-                self.resolve(self.read_pattern())
-                self.take("->")
-                self.resolve(self.read_pattern())
-                if self.has("where"):
-                    self.read_choice()
+            return name, Read(own, others, self._body())
         finally:
-            self.definitions[place] = self.definitions[place]._replace(end=self.tokens[self.at - 1].end)
+            self.found[-1] = self.found[-1]._replace(end=self.end)
 
-    def read_parameters(self) -> tuple[list[Token], list[Token]]:
-        strategies: list[Token] = []
-        terms: list[Token] = []
-        if self.has("("):
-            found = strategies
-            while not self.has(")"):
-                if self.kind() == "name":
-                    found.append(self.take())
-                elif self.has("|"):
-                    found = terms
-                else:
-                    self.take(",")
-        return strategies, terms
-
-    def comment_before(self, number: int) -> str:
-        """The comments before a token, of lines that follow one another."""
-        place = self.every.index(self.tokens[number])
+    def comment_before(self, at: int) -> str:
+        """The comments before the token of this number, of lines that follow one another."""
+        place, begin = self.places[at], self._spans[at][0]
         lines: list[str] = []
-        at = self.tokens[number].begin
         while place > 0 and self.every[place - 1].kind == "comment":
             place -= 1
             token = self.every[place]
-            between = self.text[token.end : at]
             before = self.text[self.text.rfind("\n", 0, token.begin) + 1 : token.begin]
-            if between.count("\n") > 1 or before.strip():
+            if self.text.count("\n", token.end, begin) > 1 or before.strip():
                 break
             lines.insert(0, re.sub(r"^//\s?|^/\*+\s?|\s?\*+/$", "", token.text))
-            at = token.begin
+            begin = token.begin
         return "\n".join(lines)
 
     # ---- strategies
 
-    def new_number(self) -> int:
-        self.count += 1
-        return self.count
-
-    def read_choice(self) -> None:
-        self.read_sequence()
-        if self.has("<+"):
-            self.read_choice()
-        elif self.has("<"):
-            self.read_sequence()
-            self.take("+")
-            self.read_choice()
-
-    def read_sequence(self) -> None:
-        while True:
-            self.read_step()
-            while self.has("=>"):
-                self.resolve(self.read_pattern())
-            if not self.has(";"):
-                return
-
-    def read_step(self) -> None:
-        word = self.next()
-        if word in _STEPS:
-            self.take(word)
-            _STEPS[word](self)
-        elif self.kind() == "integer":
-            self.at += 1
-            self.take("(")
-            self.read_choice()
-            self.take(")")
-        else:
-            self.read_use()
-
-    def read_inside(self) -> None:
-        self.take("(")
-        self.read_choice()
-        self.take(")")
-
-    def read_matched(self) -> None:
-        self.resolve(self.read_pattern())
-
-    def read_application(self) -> None:
-        self.read_choice()
-        self.take(">")
-        self.resolve(self.read_pattern())
-
-    def read_condition(self) -> None:
-        self.read_choice()
-        self.take("then")
-        self.read_choice()
-        if self.has("else"):
-            self.read_choice()
-        self.take("end")
-
-    def read_scope(self) -> None:
-        found: list[Token] = []
-        while not self.has(":"):
-            found.append(self.take())
-            self.has(",")
-        self.open_scope(found)
-        self.read_choice()
+    def _closure(self) -> Strategy:
+        self.scopes.append(None)
+        found = super()._closure()
         self.scopes.pop()
-        self.take("}")
+        return found
 
-    def read_closure(self) -> None:
-        left = self.read_pattern()
-        self.open_scope([])
-        self.scopes[-1] = self.scopes[-1]._replace(listed=frozenset(it.text for it in left))
-        self.resolve(left)
-        self.take("->")
-        self.resolve(self.read_pattern())
-        if self.has("where"):
-            self.read_choice()
+    def _scope(self) -> Strategy:
+        found = super()._scope()
         self.scopes.pop()
-        self.take("\\")
+        return found
 
-    def open_scope(self, listed: list[Token]) -> None:
-        self.scopes.append(_Scope(self.new_number(), frozenset(it.text for it in listed)))
-        for it in listed:
-            self.add(it, "variable", ("variable", str(self.scopes[-1].number), it.text), binding=True)
+    def _listed(self) -> tuple[Pattern, ...]:
+        found: list[int] = []
+        while not self._taken(":"):
+            found.append(self._at)
+            self._word()
+            self._taken(",")
+        scope = _Scope(self.new_number(), frozenset(self._tokens[it][1] for it in found))
+        self.scopes.append(scope)
+        for it in found:
+            self.add(it, "variable", ("variable", str(scope.number), self._tokens[it][1]), binding=True)
+        return ()
 
-    def read_list(self) -> None:
-        while not self.has("]"):
-            self.read_choice()
-            if not self.has(",", "|") and self.next() != "]":
-                raise _Stuck
-
-    def read_tuple(self) -> None:
-        while not self.has(")"):
-            self.read_choice()
-            if not self.has(",") and self.next() != ")":
-                raise _Stuck
-
-    def read_rec(self) -> None:
-        token = self.take()
-        key = ("rec", str(self.new_number()), token.text)
-        self.add(token, "rec", key, binding=True)
-        self.reach.append((token.text, key))
-        self.read_inside()
+    def _rec(self) -> Strategy:
+        key = ("rec", str(self.new_number()), self._next)
+        if self._kind == "word":
+            self.add(self._at, "rec", key, binding=True)
+        self.reach.append((self._next, key))
+        found = super()._rec()
         self.reach.pop()
+        return found
 
-    def read_primitive(self) -> None:
-        self.take("(")
-        if self.kind() != "string":
-            raise _Stuck
-        token = self.tokens[self.at]
-        self.at += 1
-        place = len(self.names)
-        count = 0
-        while not self.has(")"):
-            self.take(",")
-            self.resolve(self.read_pattern())
-            count += 1
-        name = token.text.strip('"')
-        self.names.insert(place, Name(name, token.begin, token.end, "primitive", ("primitive", name, str(count)), 0, count))
+    def _prim(self) -> Strategy:
+        at = self._at + 1
+        found = super()._prim()
+        name, count = found.name.strip('"'), len(found.patterns)
+        self.names.append(Name(name, *self._spans[at], "primitive", ("primitive", name, str(count)), 0, count))
+        return found
 
-    def read_use(self) -> None:
-        token = self.take()
-        place = len(self.names)
-        strategies = terms = 0
-        if self.has("("):
-            while not self.has(")"):
-                if self.has("|"):
-                    terms = self.read_terms()
-                    self.take(")")
-                    break
-                self.read_choice()
-                strategies += 1
-                if not self.has(",") and self.next() not in (")", "|"):
-                    raise _Stuck
-        for name, key in reversed(self.reach):
-            if name == token.text:
-                self.names.insert(place, Name(name, token.begin, token.end, key[0], key, strategies, terms))
-                return
-        key = ("use", token.text, str(strategies), str(terms))
-        self.names.insert(place, Name(token.text, token.begin, token.end, "use", key, strategies, terms))
-
-    def read_terms(self) -> int:
-        count = 1
-        self.resolve(self.read_pattern())
-        while self.has(","):
-            self.resolve(self.read_pattern())
-            count += 1
-        return count
+    def _named(self, name: str) -> Strategy:
+        at = self._at - 1
+        found = super()._named(name)
+        if found.kind == "call":
+            strategies, terms = len(found.parts), len(found.patterns)
+            key = next((key for it, key in reversed(self.reach) if it == name), ("use", name, str(strategies), str(terms)))
+            self.add(at, key[0], key, strategies, terms)
+        return found
 
     # ---- patterns
 
-    def read_pattern(self) -> list[Token]:
-        """Reads a pattern. Returns its variables."""
-        found: list[Token] = []
-        if self.kind() in ("integer", "string"):
-            self.at += 1
-        elif self.has("["):
-            found += self.read_patterns("]")
-        elif self.has("("):
-            found += self.read_patterns(")")
-        else:
-            token = self.take()
-            if self.has("("):
-                place, before = len(self.names), self.at
-                inside = self.read_patterns(")")
-                count = self.arguments(before)
-                key = ("constructor", token.text, str(count))
-                self.names.insert(place, Name(token.text, token.begin, token.end, "constructor", key, count))
-                found += inside
-            elif token.text != "_":
-                found.append(token)
-                if self.has("@"):
-                    return found + self.read_pattern()
-        if self.has("{"):
-            found += self.read_patterns("}")
+    def _pattern(self) -> Pattern:
+        at, is_name = self._at, self._kind == "word"
+        is_constructor = is_name and self._tokens[at + 1][1] == "("
+        if is_name and not is_constructor and self._next != "_":
+            self.variables.append(at)
+        self.depth += 1
+        found = super()._pattern()
+        self.depth -= 1
+        if is_constructor:
+            # with annotations it is a part of what was read
+            count = len((found.parts[0] if found.kind == "other" else found).parts)
+            self.add(at, "constructor", ("constructor", self._tokens[at][1], str(count)), count)
+        if self.depth == 0:
+            self.resolve(self.variables)
+            self.variables = []
         return found
 
-    def read_patterns(self, end: str) -> list[Token]:
-        found: list[Token] = []
-        while not self.has(end):
-            found += self.read_pattern()
-            if not self.has(",", "|") and self.next() != end:
-                raise _Stuck
-        return found
-
-    def arguments(self, first: int) -> int:
-        """The number of arguments between a bracket and this place, which comes after the other one."""
-        if first == self.at - 1:
-            return 0
-        depth = 0
-        count = 1
-        for token in self.tokens[first : self.at - 1]:
-            depth += token.kind == "sign" and (token.text in "([{") - (token.text in ")]}")
-            count += depth == 0 and token.text == "," and token.kind == "sign"
-        return count
-
-    def resolve(self, variables: list[Token]) -> None:
-        for it in variables:
-            scope = next((scope for scope in reversed(self.scopes) if it.text in scope.listed), None)
-            if scope is None and it.text in self.terms:
-                self.add(it, "term", self.terms[it.text])
+    def resolve(self, variables: list[int]) -> None:
+        """Takes note of what the variables of a pattern stand for. Those of the left side of a closure are its own."""
+        if self.scopes[-1] is None:
+            self.scopes[-1] = _Scope(self.new_number(), frozenset(self._tokens[it][1] for it in variables))
+        for at in variables:
+            name = self._tokens[at][1]
+            scope = next((it for it in reversed(self.scopes) if it is not None and name in it.listed), None)
+            if scope is None and name in self.terms:
+                self.add(at, "term", self.terms[name])
             else:
-                number = (scope or self.scopes[0]).number
-                self.add(it, "variable", ("variable", str(number), it.text))
-
-
-_STEPS: Final[dict[str, Callable[[_Reader], None]]] = {
-    "id": lambda _: None,
-    "fail": lambda _: None,
-    **dict.fromkeys(("all", "one", "some", "not", "where", "test"), _Reader.read_inside),
-    "if": _Reader.read_condition,
-    "?": _Reader.read_matched,
-    "!": _Reader.read_matched,
-    "<": _Reader.read_application,
-    "{": _Reader.read_scope,
-    "\\": _Reader.read_closure,
-    "[": _Reader.read_list,
-    "(": _Reader.read_tuple,
-    "rec": _Reader.read_rec,
-    "prim": _Reader.read_primitive,
-}
+                first = scope or self.scopes[0]
+                self.add(at, "variable", ("variable", str(first.number if first else 0), name))
