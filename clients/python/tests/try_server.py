@@ -487,6 +487,51 @@ def by_code(top):
         yield "VS Code's extension", "" if ran.stdout == BY_CODE and not ran.stderr else ran.stdout + ran.stderr
 
 
+MINE = "module mine\nrules\n  Not-none : Compare(x,[Eq()],[Constant(None(),k)]) -> Compare(x,[Is()],[Constant(None(),k)])\n"
+# What `stratbench.json` may not have, and what is said of that.
+WRONG_SETTINGS = [
+    ("{", "Expecting property name"),
+    ("[]", "it isn't an object"),
+    ('{"library": 1}', "`library` isn't true or false"),
+    ('{"modules": "*.str"}', "`modules` isn't a list of texts"),
+    ('{"language": "cobol"}', "`language` isn't one of python, "),
+    ('{"module": []}', "there is no member `module`; there are `modules`, `library`, `signature`, `language`, `entries`"),
+]
+
+
+def settings():
+    """The file of settings, which the server, the command that refactors and the shell read."""
+    with tempfile.TemporaryDirectory() as room:
+        os.makedirs(f"{room}/rules/inner")
+        written(room, "rules/mine.str", MINE)
+        path = written(room, "stratbench.json", '{"modules": ["rules/*.str"], "signature": "python", "language": "python"}')
+        written(room, "rules/inner/code", "a == None\n")
+        editor = Editor()
+        editor.open(f"{room}/rules/mine.str", MINE)
+        found = editor.diagnostics(f"{room}/rules/mine.str")
+        name = {"textDocument": {"uri": uri_of(f"{room}/rules/mine.str")}, "position": {"line": 2, "character": 15}}
+        hover = editor.ask("textDocument/hover", **name)["contents"]["value"]
+        yield "the signature of a language, in the server", "" if not found and "Compare : expr" in hover else f"{found} {hover}"
+        editor.end()
+        ran = told(f"{room}/rules/inner", "stratbench.refactor", "--do", "bottomup(try(Not-none))", "code")
+        yield "in the command that refactors", "" if "+a is None" in ran.stdout and ran.returncode == 0 else f"{ran}"
+        ran = told(f"{room}/rules/inner", "stratbench", given="tree t Compare(1,[Eq()],[Constant(None(),2)])\napply t do Not-none\nshow t\n")
+        yield "in the shell", "" if ran.stdout == "module python\nmodule mine\nok\nok\nCompare(1,[Is],[Constant(None,2)])\n" else f"{ran}"
+        written(room, "stratbench.json", '{"library": false}')
+        ran = told(room, "stratbench", given="modules\n")
+        yield "without the library", "" if ran.stdout == "modules\n" else f"{ran}"
+        for text, wanted in WRONG_SETTINGS:
+            written(room, "stratbench.json", text)
+            said = [told(room, *words).stderr for words in (("stratbench.refactor", "--do", "id", "."), ("stratbench",))]
+            yield f"settings {text}", "" if all(it.startswith(f"{path}: {wanted}") for it in said) else f"{said}"
+
+
+def told(room, module, *words, given=""):
+    """What a module of the client prints in a folder."""
+    environment = {**os.environ, "PYTHONPATH": CLIENT, "HOME": room}
+    return subprocess.run([sys.executable, "-m", module, *words], cwd=room, env=environment, input=given, capture_output=True, text=True)
+
+
 def real(link):
     try:
         return os.readlink(link)
@@ -529,6 +574,7 @@ def tests(top, everything):
     yield from layouts(top)
     yield from said()
     yield from renamed()
+    yield from settings()
     yield from ends()
     yield from by_turns()
     yield from mistakes(top)

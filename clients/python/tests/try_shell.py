@@ -107,7 +107,7 @@ def second(it, folder):
     it.do(":edit m", "^module m")
     it.do(":diff", r"^-.*B\(\)\)\n\+.*f\(B\(\)\)\)")
     it.do(":none", "^there is no :none")
-    it.do(":load", "^the form is `:load FILE..`")
+    it.do(":load", "^no file is named, and there is no stratbench.json")
     it.do(":load none.str", "none.str")
     it.do(":help", r"^:reload(?s:.*)\n  history +dump")
     it.do(":profile long at /1499 do ?x; !x", r"^3 steps\n    the steps: the command 100 % \(3\)")

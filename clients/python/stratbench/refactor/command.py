@@ -15,6 +15,7 @@ from .. import languages
 from ..cluster import Lost, Unreachable
 from ..concrete.text import Fault, Source
 from ..languages.language import Missing
+from ..settings import settings_of
 from . import files, positions, trials
 from .batches import outcomes
 from .report import Left, Progress, Tally, counted, said
@@ -70,7 +71,7 @@ def _arguments(words: Sequence[str] | None) -> argparse.Namespace:
         epilog="Status: 0; 1 with --check where something would change; 2 for a wrong command line, module or strategy; "
         "3 where a file or a place was left, or files couldn't be written.",
     )
-    parser.add_argument("--module", action="append", default=[], metavar="NAME=FILE", help="load a module of strategies")
+    parser.add_argument("--module", action="append", default=[], metavar="NAME=FILE", help="load a module of strategies; where none is named, those of stratbench.json are loaded")
     parser.add_argument("--modules", action="append", default=[], metavar="FOLDER", help="load the modules of a folder, as strategies")
     parser.add_argument("--language", choices=languages.NAMES, help="the language of files whose suffix says none; of folders its files alone")
     parser.add_argument("--do", metavar="STRATEGY", help="the strategy that is applied to each file's tree, else all rules everywhere")
@@ -108,6 +109,7 @@ def _done(given: argparse.Namespace) -> int:
     if given.recover:
         return 3 if left else 0
     try:
+        given.settings = settings_of(os.getcwd())
         task, written = _task(given), _written_rules(given)
         if given.show_module:
             return _show_modules(given, written)
@@ -137,7 +139,11 @@ def _recovered() -> bool:
 
 # The modules of a folder, as words NAME=FILE.
 def _folder(folder: str) -> list[str]:
-    return [f"{it[: -len('.str')]}={folder}/{it}" for it in sorted(os.listdir(folder)) if it.endswith(".str")]
+    return [f"{_stem(it)}={folder}/{it}" for it in sorted(os.listdir(folder)) if it.endswith(".str")]
+
+
+def _stem(file: str) -> str:
+    return os.path.basename(file)[: -len(".str")]
 
 
 def _task(given: argparse.Namespace) -> Task:
@@ -148,7 +154,14 @@ def _task(given: argparse.Namespace) -> Task:
             words += _folder(folder)
         except OSError as error:
             raise ValueError(f"--modules {folder}: {error.strerror}") from None
-    for word in [*words, *given.module]:
+    words += given.module
+    if not words and given.settings.is_there:
+        words = [f"{_stem(it)}={it}" for it in given.settings.files(os.getcwd())]
+        for name, text in given.settings.declared():
+            if not any(it.startswith(f"{name}=") for it in words):
+                modules.append((name, text.encode()))
+                names.append(f"{name}.str")
+    for word in words:
         name, equals, file = word.partition("=")
         if not equals:
             raise ValueError(f"--module: no NAME=FILE: {word}")
@@ -178,7 +191,7 @@ def _written_rules(given: argparse.Namespace) -> Written:
 # The language of rules, where no file says it.
 def _language(given: argparse.Namespace) -> str:
     named = [own_language(it) for it in given.rules]
-    return str(given.language or next((it for it in named if it is not None), "python"))
+    return str(given.language or next((it for it in named if it is not None), given.settings.language or "python"))
 
 
 def _show_modules(given: argparse.Namespace, written: Written) -> int:
@@ -250,6 +263,9 @@ def _refactored(given: argparse.Namespace, task: Task, written: Written) -> int:
     read = [(name, it) for name, it in contents if isinstance(it, bytes)]
     groups = files.by_language(read, given.language)
     unknown = groups.pop(None, [])
+    if unknown and given.settings.language:
+        groups.setdefault(given.settings.language, []).extend(unknown)
+        unknown = []
     unread = [Left(name, f"{name}: {it}") for name, it in contents if isinstance(it, str)]
     unread += [Left(name, f"{name}: its suffix says no language: give --language") for name, _ in unknown]
     asked = groups or ({} if unknown else {_language(given): []})

@@ -35,7 +35,8 @@ class _Modules:
 
     def __init__(self, folder: Folder, own: str) -> None:
         self.files = names_of(folder, sorted({*folder.paths(), own}))
-        self.texts = {name: folder.text(path) for name, path in self.files.items()}
+        # a file may declare a language's constructors itself
+        self.texts = {**folder.declared(), **{name: folder.text(path) for name, path in self.files.items()}}
 
     def place(self, label: Label, own: Optional[str]) -> tuple[str, int, int] | None:
         """Returns the module of a label and its characters; none of one that is elsewhere. `own` is the module whose text was refused."""
@@ -116,7 +117,7 @@ def _related(modules: _Modules, note: Sentence, own: Optional[str]) -> list[dict
     found = []
     for label in note.labels:
         place = modules.place(label, own)
-        if place:
+        if place and place[0] in modules.files:
             location = {"uri": uri_of(modules.files[place[0]]), "range": _range(modules, label, own)}
             found.append({"location": location, "message": modules.told(note, own)})
     return found

@@ -2,43 +2,14 @@
 
 from __future__ import annotations
 
-import glob
-import json
 import os
 import subprocess
 from collections.abc import Iterator
-from typing import Any, Final
 
+from ..settings import Settings, settings_of
 from .checking import Session
 from .reading import Constructor, Definition, Name
 from .texts import Text
-
-SETTINGS: Final = "stratbench.json"
-
-
-class BadSettings(ValueError):
-    """A file of settings that can't be read."""
-
-
-def settings_of(folder: str) -> tuple[str, dict[str, Any]]:
-    """Returns the settings of a folder, those of the nearest folder around it that has some, and that folder."""
-    at = os.path.abspath(folder)
-    while True:
-        path = os.path.join(at, SETTINGS)
-        if os.path.isfile(path):
-            try:
-                with open(path, encoding="utf-8") as it:
-                    found = json.load(it)
-            except (OSError, ValueError) as why:
-                raise BadSettings(f"{path}: {why}") from None
-            if not isinstance(found, dict):
-                raise BadSettings(f"{path}: it has to be an object")
-            return at, found
-        above = os.path.dirname(at)
-        if above == at:
-            return os.path.abspath(folder), {}
-        at = above
-
 
 class Folder:
     """The modules that are loaded with those of a folder. Open buffers count, saved or not."""
@@ -49,14 +20,16 @@ class Folder:
         self.program = program
         self._read: dict[str, tuple[float, Text]] = {}
         self._library: Text | None = None
+        self._declared: dict[str, Text] = {}
         self._session: Session | None = None
 
     @property
     def session(self) -> Session:
         """The program with these modules."""
-        if self._session is None or self._session.has_library != self.has_library():
+        has_library = self.settings().library
+        if self._session is None or self._session.has_library != has_library:
             self.end()
-            self._session = Session(self.program, self.has_library())
+            self._session = Session(self.program, has_library)
         return self._session
 
     def end(self) -> None:
@@ -64,17 +37,15 @@ class Folder:
         if self._session is not None:
             self._session.end()
 
-    def paths(self) -> list[str]:
-        """Returns the files of the modules, in order."""
-        at, settings = settings_of(self.folder)
-        patterns = settings.get("modules", [os.path.join(self.folder, "*.str")])
-        found = {it for pattern in patterns for it in glob.glob(os.path.join(at, pattern))}
-        inside = {it for it in self.buffers if os.path.dirname(it) == self.folder and it.endswith(".str") and "modules" not in settings}
-        return sorted(os.path.abspath(it) for it in found | inside)
+    def settings(self) -> Settings:
+        """Returns the settings as they are now. Raises `BadSettings`."""
+        return settings_of(self.folder)
 
-    def has_library(self) -> bool:
-        """Whether the library is loaded with them: it is, unless the settings say otherwise."""
-        return bool(settings_of(self.folder)[1].get("library", True))
+    def paths(self) -> list[str]:
+        """Returns the files of the modules, in order. Where they aren't named, buffers that have no file yet are among them."""
+        settings = self.settings()
+        more = self.buffers if settings.modules is None else {}
+        return sorted({*settings.files(self.folder), *(it for it in more if os.path.dirname(it) == self.folder and it.endswith(".str"))})
 
     def text(self, path: str) -> Text:
         """Returns the text of a file, as its buffer has it."""
@@ -96,14 +67,23 @@ class Folder:
             self._library = Text(ran.stdout.decode(errors="replace"))
         return self._library
 
+    def declared(self) -> dict[str, Text]:
+        """Returns the module of the constructors that the settings want, by its name."""
+        wanted = dict(self.settings().declared())
+        for name, text in wanted.items():
+            if name not in self._declared or self._declared[name].text != text:
+                self._declared[name] = Text(text)
+        return {name: self._declared[name] for name in wanted}
+
     def modules(self, own: str) -> Modules:
-        """Returns the modules as they are now, that of a file first; the library comes last."""
+        """Returns the modules as they are now, that of a file first; those without a file come last."""
         paths = [own, *(it for it in self.paths() if it != own)]
-        return Modules(own, [*((it, self.text(it)) for it in paths), *[("", self.library())] * self.has_library()])
+        others = [*self.declared().values(), *[self.library()] * self.settings().library]
+        return Modules(own, [*((it, self.text(it)) for it in paths), *(("", it) for it in others)])
 
 
 class Modules:
-    """Modules, each with its file; the library has none. What a name stands for in each of them is found once for its text."""
+    """Modules, each with its file; the library has none, nor has a language's signature. What a name stands for in each of them is found once for its text."""
 
     def __init__(self, own: str, texts: list[tuple[str, Text]]) -> None:
         self.own = own

@@ -10,8 +10,9 @@ import threading
 from collections.abc import Callable, Sequence
 from typing import IO, Any, Final
 
+from ..settings import BadSettings
 from . import answers, faults, layout, trying
-from .folder import BadSettings, Folder, Modules, settings_of
+from .folder import Folder, Modules
 from .messages import receive, send
 from .reading import Name
 from .texts import Text, path_of, uri_of
@@ -159,7 +160,7 @@ class Server:
             self.publish(name, found)
 
     def add_unused(self, folder: Folder, own: str, found: dict[str, list[dict[str, Any]]]) -> None:
-        entries = settings_of(folder.folder)[1].get("entries")
+        entries = folder.settings().entries
         if entries is None:
             return
         for path, text, it in answers.unused(folder.modules(own), entries):

@@ -16,6 +16,7 @@ import sys
 from collections.abc import Sequence
 
 from .. import Ended
+from ..settings import BadSettings, settings_of
 from .commands import Quit, Shell
 from .lines import Reader, reader
 from .session import Session
@@ -28,7 +29,7 @@ def _arguments(words: Sequence[str] | None) -> argparse.Namespace:
     parser.add_argument("--max-steps", type=int, metavar="N", help="the greatest budget, from 1,000,000 to 4,000,000,000")
     parser.add_argument("--max-terms", type=int, metavar="N", help="the greatest size of a term, from 100,000 to 1,000,000,000")
     parser.add_argument("--program", metavar="FILE", help="stratbench, where it isn't in PATH or STRATBENCH")
-    parser.add_argument("files", nargs="*", metavar="FILES", help="modules and trees to load, as :load does")
+    parser.add_argument("files", nargs="*", metavar="FILES", help="modules and trees to load, as :load does, else those of stratbench.json")
     return parser.parse_args(words)
 
 
@@ -67,9 +68,14 @@ def main(words: Sequence[str] | None = None) -> int:
     """Runs the shell, and returns its status."""
     given = _arguments(words)
     signal.signal(signal.SIGINT, signal.default_int_handler)
+    try:
+        settings = settings_of(os.getcwd())
+    except BadSettings as error:
+        print(error, file=sys.stderr)
+        return 2
     limits = {"steps": given.steps, "max_steps": given.max_steps, "max_terms": given.max_terms}
     try:
-        session = Session(_say, library=not given.no_library, program=given.program, **limits)
+        session = Session(_say, library=settings.library and not given.no_library, program=given.program, **limits)
     except OSError as error:
         print(f"{error.filename}: {error.strerror}; STRATBENCH or --program names the program", file=sys.stderr)
         return 2
@@ -80,8 +86,8 @@ def main(words: Sequence[str] | None = None) -> int:
     shell = Shell(session, _say, colours)
     if sys.stdin.isatty():
         _say("stratbench: a line is a command; :help lists them, Ctrl-D ends")
-    if given.files:
-        shell.do(f":load {shlex.join(given.files)}")
+    if given.files or settings.is_there:
+        shell.do(f":load {shlex.join(given.files)}".rstrip())
     typed = reader(shell.completions, _history(), colours)
     shell.edits_here = typed.edits
     _serve(shell, typed)

@@ -19,6 +19,8 @@ from typing import Final, Literal
 from .. import Refused, Replacement
 from ..places import shown
 from ..python import deep
+from ..settings import NAME as SETTINGS
+from ..settings import BadSettings, settings_of
 from ..terms import Term, read
 from .completion import Candidate, Completer
 from .session import Again, Gone, Loaded, Refusal, RefusedFile, Session
@@ -27,7 +29,7 @@ from .view import Marked, Paint, against, changed, differences, folded, lines, p
 
 # The shell's own commands, with their forms and what they do.
 OWN: Final = {
-    "load": ("FILE..", "load modules (*.str) and trees (other files), as one step; NAME=FILE gives a name"),
+    "load": ("[FILE..]", "load modules (*.str) and trees (other files), as one step, or those of stratbench.json; NAME=FILE gives a name"),
     "reload": ("[NAME..]", "load again what has changed of these files, or those of these names"),
     "save": ("NAME FILE", "write a module or a tree to a file"),
     "edit": ("NAME", "edit a module or a tree in $EDITOR, and load it"),
@@ -267,10 +269,28 @@ class Shell:
             for line in difflib.unified_diff(old, new, f"module {name}, before", f"module {name}", lineterm=""):
                 self.say({"-": self._paint(_RED), "+": self._paint(_GREEN)}.get(line[0], plain)(line))
 
-    def do_load(self, first: str, *files: str) -> None:
-        found = [self._from_file(it) for it in (first, *files)]
-        self._load([it for _, it in found], f":load {' '.join((first, *files))}")
+    def do_load(self, *files: str) -> None:
+        if not files:
+            self._load_settings()
+            return
+        found = [self._from_file(it) for it in files]
+        self._load([it for _, it in found], f":load {' '.join(files)}")
         self._files.update((it.file, (name, it)) for name, it in found)
+
+    # Loads the modules that the folder's settings name, with the constructors that they want.
+    def _load_settings(self) -> None:
+        try:
+            settings = settings_of(os.getcwd())
+        except BadSettings as why:
+            raise Refusal(str(why)) from None
+        if not settings.is_there:
+            raise Refusal(f"no file is named, and there is no {SETTINGS} in this folder or around it")
+        found = [self._from_file(os.path.relpath(it)) for it in settings.files(os.getcwd())]
+        names = {it.name for _, it in found}
+        declared = [Loaded("module", name, text) for name, text in settings.declared() if name not in names]
+        if found or declared:
+            self._load([*declared, *(it for _, it in found)], ":load")
+            self._files.update((it.file, (name, it)) for name, it in found)
 
     def do_reload(self, *names: str) -> None:
         known = {name: file for file, (_, it) in self._files.items() for name in (file, it.name, _stem(file))}
