@@ -9,6 +9,7 @@ import glob
 import json
 import os
 from collections.abc import Callable
+from functools import lru_cache
 from typing import Any, Final, NamedTuple, Optional
 
 from . import languages
@@ -38,7 +39,12 @@ class Settings(NamedTuple):
 
     def declared(self) -> list[tuple[str, str]]:
         """Returns the module that declares the constructors of a language, with its name, where one is wanted."""
-        return [] if self.signature is None else [(self.signature, languages.named(self.signature).signature())]
+        return [] if self.signature is None else [(self.signature, _signature(self.signature))]
+
+
+@lru_cache(maxsize=None)
+def _signature(language: str) -> str:
+    return languages.named(language).signature()
 
 
 def settings_of(folder: str) -> Settings:

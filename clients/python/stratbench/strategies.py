@@ -20,6 +20,8 @@ from .terms import LIST, TUPLE, NoTerm, read
 # The groups of a pattern that say what a token is.
 WORDS: Final = r"(?P<word>[A-Za-z_](?:[A-Za-z0-9_']|-(?!>))*)|(?P<number>-?[0-9]+)|(?P<sign>=>|->|<\+|[()\[\]{},;:|=<>+*?!@\\])"
 _TOKEN: Final = re.compile(rf"""\s+|//[^\n]*|/\*.*?\*/|(?P<string>"(?:\\.|[^"\\])*")|{WORDS}""", re.DOTALL)
+# A text in a language's own syntax, between backquotes, which `concrete.quotations` knows; its lastgroup is `quote`.
+QUOTATION: Final = r"(?P<fence>`+)(?P<quote>.*?)(?<!`)(?P=fence)(?!`)"
 # The words that are no names.
 RESERVED: Final = frozenset(
     "module signature sorts constructors rules strategies id fail all one some not where test if then else end rec prim".split()

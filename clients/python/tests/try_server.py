@@ -487,6 +487,39 @@ def by_code(top):
         yield "VS Code's extension", "" if ran.stdout == BY_CODE and not ran.stderr else ran.stdout + ran.stderr
 
 
+# Modules with quotations, and the line, the columns and the code of what is said of them.
+QUOTED = [
+    ("module q\nrules\n  A : `print($x, $*r)` -> `log($x, $*r)`\nstrategies\n  f = bottomup(try(A))\n", []),
+    ("module q\nrules\n  A : `print($x` -> `log($x)`\n", [(2, 12, 13, "quotation")]),
+    ("module q\nrules\n  A : `print($x)` -> `log($y)`\n", [(2, 26, 27, "quotation")]),
+    ("module q\nrules\n  A : `print($x)` -> `log($x)` where <lost> x\n  B : x -> `a`\nstrategies g = gone", [(2, 38, 42, "unknown"), (4, 15, 19, "unknown")]),
+    ("module q\nrules\n  A : `print($x)` -> `log($x)` where\nstrategies", [(3, 0, 1, "quotation")]),
+]
+
+
+def quotations():
+    """What is said of modules with patterns in a language's own syntax."""
+    with tempfile.TemporaryDirectory() as room:
+        written(room, "stratbench.json", '{"language": "python"}')
+        written(room, "other.str", "module other strategies h = A")
+        path = os.path.join(room, "q.str")
+        editor = Editor()
+        for text, wanted in QUOTED:
+            editor.open(path, text)
+            found = [
+                (it["range"]["start"]["line"], it["range"]["start"]["character"], it["range"]["end"]["character"], it["code"])
+                for it in editor.diagnostics(path)
+            ]
+            yield f"quotations in {text!r:.50}", "" if found == wanted else f"{found} {editor.told}"
+        text = QUOTED[0][0]
+        editor.change(path, text)
+        given = {"textDocument": {"uri": uri_of(path)}, "position": {"line": 2, "character": 14}}
+        edits = editor.ask("textDocument/rename", newName="value", **given)["changes"][uri_of(path)]
+        wanted = text.replace("$x", "$value")
+        yield "a metavariable is renamed", "" if changed(Text(text), edits) == wanted else f"{edits}"
+        editor.end()
+
+
 MINE = "module mine\nrules\n  Not-none : Compare(x,[Eq()],[Constant(None(),k)]) -> Compare(x,[Is()],[Constant(None(),k)])\n"
 # What `stratbench.json` may not have, and what is said of that.
 WRONG_SETTINGS = [
@@ -575,6 +608,7 @@ def tests(top, everything):
     yield from said()
     yield from renamed()
     yield from settings()
+    yield from quotations()
     yield from ends()
     yield from by_turns()
     yield from mistakes(top)

@@ -19,16 +19,15 @@ from collections.abc import Callable, Iterable, Iterator, Mapping
 from itertools import count
 from typing import Final, NamedTuple, Optional, TypeVar
 
-from ..strategies import Definition, NoStrategy, Pattern as Given, Reader, Strategy
+from ..strategies import QUOTATION, Definition, NoStrategy, Pattern as Given, Reader, Strategy
 from .adapter import Adapter
 from .pattern import At, Hole, Items, Pattern, Raw, children, is_rest, settled
 from .text import Fault, Made, Source, Span, put
 from .writing import Bound, Building, Condition, Form, Matching, Search, congruence, conjunction, variable
 
-_QUOTATION: Final = r"(?P<fence>`+)(?P<quote>.*?)(?<!`)(?P=fence)(?!`)"
 _PLAIN: Final = r'\s+|//[^\n]*|/\*.*?\*/|(?P<string>"(?:\\.|[^"\\])*")'
 _TOKEN: Final = re.compile(
-    rf"{_PLAIN}|{_QUOTATION}|(?P<word>(?:\$[*?]{{0,2}})?[A-Za-z_](?:[A-Za-z0-9_']|-(?!>))*)|(?P<number>-?[0-9]+)"
+    rf"{_PLAIN}|{QUOTATION}|(?P<word>(?:\$[*?]{{0,2}})?[A-Za-z_](?:[A-Za-z0-9_']|-(?!>))*)|(?P<number>-?[0-9]+)"
     r"|(?P<sign>=>|->|<\+|[()\[\]{},;:|=<>+*?!@\\~])",
     re.DOTALL,
 )

@@ -88,7 +88,7 @@ def with_written(task: Task, written: Written) -> Task:
     for it in made_of(rules, task.language, modules):
         traces[it.name] = it.text
         modules[it.name] = (str(it.text).encode(errors="surrogateescape"), f"<{it.name}>")
-    for name, made in _needed(task.language, adapter).items():
+    for name, made in needed(task.language, adapter).items():
         modules.setdefault(name, (made.encode(), f"<{name}>"))
     strategy = task.strategy or DRIVER
     if has_quotations(strategy):
@@ -99,8 +99,8 @@ def with_written(task: Task, written: Written) -> Task:
     return task._replace(modules=texts, files=tuple(file for _, file in modules.values()), strategy=strategy, traces=tuple(traces.items()))
 
 
-# The modules that what is made needs: the constructors, and what it calls.
-def _needed(language: str, adapter: Adapter) -> dict[str, str]:
+def needed(language: str, adapter: Adapter) -> dict[str, str]:
+    """Returns the modules that what is made needs: the constructors, and what it calls."""
     return {
         language: languages.named(language).signature(),
         "concrete": resource("stratbench.concrete", "concrete.str"),

@@ -21,7 +21,7 @@ _OF_NAMES: Final = {
     "definition": "function", "use": "function", "strategy": "parameter", "term": "parameter", "rec": "parameter", "variable": "variable",
     "constructor": "enumMember", "sort": "type", "module": "namespace", "primitive": "string",
 }  # fmt: skip
-_OF_TOKENS: Final = {"reserved": "keyword", "comment": "comment", "string": "string", "number": "number", "sign": "operator"}
+_OF_TOKENS: Final = {"reserved": "keyword", "comment": "comment", "string": "string", "quote": "string", "number": "number", "sign": "operator"}
 
 
 class Meant:

@@ -4,12 +4,15 @@ from __future__ import annotations
 
 import os
 import re
-from typing import Any, Final, Optional
+from typing import TYPE_CHECKING, Any, Final, Optional
 
 from ..diagnostics import Diagnostic, Label, Sentence
-from .checking import Said
+from .checking import Said, Sent
 from .folder import Folder
 from .texts import Text, uri_of
+
+if TYPE_CHECKING:
+    from .quoted import WrongQuotation
 
 ERROR: Final = 1
 WARNING: Final = 2
@@ -35,19 +38,30 @@ class _Modules:
 
     def __init__(self, folder: Folder, own: str) -> None:
         self.files = names_of(folder, sorted({*folder.paths(), own}))
-        # a file may declare a language's constructors itself
-        self.texts = {**folder.declared(), **{name: folder.text(path) for name, path in self.files.items()}}
+        # what is wrong with quotations, by the module
+        self.wrong: dict[str, WrongQuotation] = {}
+        self.texts: dict[str, Text] = {}
+        self.sent: dict[str, Sent] = {}
+        for name, path in self.files.items():
+            self.texts[name], sent = folder.text(path), folder.sent(path)
+            if isinstance(sent, Sent):
+                self.sent[name] = sent
+            else:
+                self.wrong[name] = sent
+        for name, text in folder.declared(self.files.values()).items():
+            # a file may declare a language's constructors itself
+            if name not in self.texts:
+                self.texts[name], self.sent[name] = text, text.sent
 
     def place(self, label: Label, own: Optional[str]) -> tuple[str, int, int] | None:
         """Returns the module of a label and its characters; none of one that is elsewhere. `own` is the module whose text was refused."""
         name = label.module or own
-        if name not in self.texts or label.line is None:
+        if name not in self.sent or label.line is None:
             return None
-        sent = self.texts[name].sent
         if label.span is None:
-            end = len(sent.own.rstrip())
+            end = len(self.texts[name].text.rstrip())
             return name, end, end
-        begin, end = map(sent.place, label.span)
+        begin, end = map(self.sent[name].place, label.span)
         return name, begin, end
 
     def told(self, sentence: Sentence, own: Optional[str]) -> str:
@@ -66,15 +80,26 @@ class _Modules:
 def faults_of(folder: Folder, own: str) -> dict[str, list[dict[str, Any]]]:
     """Returns the diagnostics of each file of a folder that is looked at with this one, those without any, too."""
     modules = _Modules(folder, own)
-    said = folder.session.check({name: it.sent for name, it in modules.texts.items()})
     found: dict[str, list[dict[str, Any]]] = {path: [] for path in modules.files.values()}
+    for one, why in modules.wrong.items():
+        found[modules.files[one]].append({
+            "range": modules.texts[one].range(why.place, why.place + 1), "severity": ERROR, "code": "quotation", "source": "stratbench",
+            "message": str(why),
+        })  # fmt: skip
+        last = folder.sent_last(modules.files[one])
+        if last is not None:
+            modules.sent[one] = last
+    if not modules.wrong.keys() <= modules.sent.keys():
+        # the others may need what it defines
+        return found
+    said = folder.session.check(modules.sent)
     # what is no module has no other places
-    broken = {it.module for it in said if it.module and it.diagnostic.severity == "refusal"}
+    broken = {it.module for it in said if it.module and it.diagnostic.severity == "refusal"} | modules.wrong.keys()
     for it in said:
         for sentence in it.diagnostic.faults():
             first = sentence.first()
             name = (first.module if first else None) or it.module
-            if name in modules.files and (it.module or name not in broken):
+            if name in modules.files and (it.module or name not in broken) and name not in modules.wrong:
                 found[modules.files[name]].append(_as_told(modules, it, name, sentence))
     return found
 
@@ -100,7 +125,7 @@ def _as_told(modules: _Modules, said: Said, name: str, sentence: Sentence) -> di
         found["relatedInformation"] = related
     for note in beside:
         if note.replacement:
-            begin, end = map(text.sent.place, note.replacement.span)
+            begin, end = map(modules.sent[name].place, note.replacement.span)
             found["data"] = {"range": text.range(begin, end), "with": note.replacement.text}
     return found
 

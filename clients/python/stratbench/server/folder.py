@@ -4,12 +4,17 @@ from __future__ import annotations
 
 import os
 import subprocess
-from collections.abc import Iterator
+from collections.abc import Iterable, Iterator
+from typing import TYPE_CHECKING
 
 from ..settings import Settings, settings_of
-from .checking import Session
+from .checking import Sent, Session
 from .reading import Constructor, Definition, Name
 from .texts import Text
+
+if TYPE_CHECKING:
+    # what it takes is loaded where there are quotations
+    from .quoted import WrongQuotation
 
 class Folder:
     """The modules that are loaded with those of a folder. Open buffers count, saved or not."""
@@ -21,6 +26,9 @@ class Folder:
         self._read: dict[str, tuple[float, Text]] = {}
         self._library: Text | None = None
         self._declared: dict[str, Text] = {}
+        # what was made of modules with quotations, or what is wrong with these, and the last that was made of each
+        self._made: dict[str, tuple[Text, str, Sent | WrongQuotation]] = {}
+        self._last: dict[str, Sent] = {}
         self._session: Session | None = None
 
     @property
@@ -67,18 +75,54 @@ class Folder:
             self._library = Text(ran.stdout.decode(errors="replace"))
         return self._library
 
-    def declared(self) -> dict[str, Text]:
-        """Returns the module of the constructors that the settings want, by its name."""
+    def declared(self, paths: Iterable[str]) -> dict[str, Text]:
+        """Returns the modules of the client that these files need, by their names: the constructors that the settings want, and what is
+        called by what is made of quotations."""
         wanted = dict(self.settings().declared())
+        for language in {it for it in map(self.language, paths) if it is not None}:
+            from . import quoted
+
+            wanted.update(quoted.needed(language))
         for name, text in wanted.items():
             if name not in self._declared or self._declared[name].text != text:
                 self._declared[name] = Text(text)
         return {name: self._declared[name] for name in wanted}
 
+    def sent(self, path: str) -> Sent | WrongQuotation:
+        """Returns what is sent of a file: of one with quotations what is made of it, or what is wrong with them."""
+        text = self.text(path)
+        language = self.language(path)
+        if language is None:
+            return text.sent
+        before = self._made.get(path)
+        if before is None or before[0] is not text or before[1] != language:
+            from . import quoted
+
+            made: Sent | WrongQuotation
+            try:
+                made = self._last[path] = quoted.made_of(text.text, language)
+            except quoted.WrongQuotation as why:
+                made = why
+            self._made[path] = text, language, made
+        return self._made[path][2]
+
+    def sent_last(self, path: str) -> Sent | None:
+        """Returns what was sent of a file when its quotations were right, if they ever were."""
+        return self._last.get(path)
+
+    def language(self, path: str) -> str | None:
+        """Returns the language of the quotations in a file, if it has some, and it is known."""
+        if "`" not in self.text(path).text:
+            return None
+        from . import quoted
+
+        language = self.settings().language or quoted.own_language(path)
+        return language if quoted.has_quotations(self.text(path).text) else None
+
     def modules(self, own: str) -> Modules:
         """Returns the modules as they are now, that of a file first; those without a file come last."""
         paths = [own, *(it for it in self.paths() if it != own)]
-        others = [*self.declared().values(), *[self.library()] * self.settings().library]
+        others = [*self.declared(paths).values(), *[self.library()] * self.settings().library]
         return Modules(own, [*((it, self.text(it)) for it in paths), *(("", it) for it in others)])
 
 

@@ -22,19 +22,23 @@ from dataclasses import dataclass
 from functools import cached_property
 from typing import Final, NamedTuple, Optional, TypeVar
 
-from ..strategies import RESERVED, WORDS, NoStrategy, Pattern, Reader, Strategy
+from ..strategies import QUOTATION, RESERVED, WORDS, NoStrategy, Pattern, Reader, Strategy
 from ..strategies import Definition as Read
 
 SECTIONS: Final = ("signature", "sorts", "constructors", "rules", "strategies")
 # Any text has these tokens. A string that isn't closed ends with its line, and a comment with the text.
 _TOKEN: Final = re.compile(
-    rf"""\s+|(?P<comment>//[^\n]*|/\*.*?(?:\*/|\Z))|(?P<string>"(?:\\.|[^"\\\n])*"?)|{WORDS}|(?P<bad>\S)""", re.DOTALL
+    rf"""\s+|{QUOTATION}|(?P<comment>//[^\n]*|/\*.*?(?:\*/|\Z))|(?P<string>"(?:\\.|[^"\\\n])*"?)|{WORDS}|(?P<bad>\S)""", re.DOTALL
 )
+
+
+# A metavariable of a quotation.
+_VARIABLE: Final = re.compile(r"(?<![\w$])\${1,2}[*?]{0,2}([A-Za-z_]\w*)")
 
 
 class Token(NamedTuple):
     """A token, from a place to one after it. Its kind is `reserved`, or the group of the pattern that it matches: `comment`, `string`, `word`,
-    `number`, `sign` or `bad`."""
+    `number`, `sign`, `quote` or `bad`."""
 
     kind: str
     text: str
@@ -232,8 +236,8 @@ class _Reader(Reader):
         self.reach: list[tuple[str, tuple[str, ...]]] = []
         self.terms: dict[str, tuple[str, ...]] = {}
         self.count = 0
-        # The variables of the pattern that is being read, and how many patterns are open.
-        self.variables: list[int] = []
+        # The variables of the pattern that is being read, each with its place, and how many patterns are open.
+        self.variables: list[tuple[str, int]] = []
         self.depth = 0
         super().__init__(text, _TOKEN)
 
@@ -434,9 +438,25 @@ class _Reader(Reader):
         found = super()._named(name)
         if found.kind == "call":
             strategies, terms = len(found.parts), len(found.patterns)
-            key = next((key for it, key in reversed(self.reach) if it == name), ("use", name, str(strategies), str(terms)))
+            key = self.reached(name) or ("use", name, str(strategies), str(terms))
             self.add(at, key[0], key, strategies, terms)
         return found
+
+    def reached(self, name: str) -> tuple[str, ...] | None:
+        """What tells the parameter or the `rec` from others that a name stands for, if it is one's."""
+        return next((key for it, key in reversed(self.reach) if it == name), None)
+
+    def _primary(self) -> Strategy:
+        if self._next != "~":
+            return super()._primary()
+        # a congruence, whose metavariables are strategies
+        self.take()
+        if self._kind != "quote":
+            raise self._wrong("no quotation")
+        for name, begin in self.quoted():
+            key = self.reached(name) or ("use", name, "0", "0")
+            self.names.append(Name(name, begin, begin + len(name), key[0], key))
+        return Strategy("congruence")
 
     # ---- patterns
 
@@ -444,9 +464,13 @@ class _Reader(Reader):
         at, is_name = self._at, self._kind == "word"
         is_constructor = is_name and self._tokens[at + 1][1] == "("
         if is_name and not is_constructor and self._next != "_":
-            self.variables.append(at)
+            self.variables.append((self._next, self._spans[at][0]))
         self.depth += 1
-        found = super()._pattern()
+        if self._kind == "quote":
+            self.variables += self.quoted()
+            found = Pattern("other")
+        else:
+            found = super()._pattern()
         self.depth -= 1
         if is_constructor:
             # with annotations it is a part of what was read
@@ -457,15 +481,20 @@ class _Reader(Reader):
             self.variables = []
         return found
 
-    def resolve(self, variables: list[int]) -> None:
+    def quoted(self) -> list[tuple[str, int]]:
+        """Takes a quotation. Returns its metavariables, each with its place."""
+        begin = self._spans[self._at][0]
+        return [(it[1], begin + it.start(1)) for it in _VARIABLE.finditer(self.take()) if it[1] != "_"]
+
+    def resolve(self, variables: list[tuple[str, int]]) -> None:
         """Takes note of what the variables of a pattern stand for. Those of the left side of a closure are its own."""
         if self.scopes[-1] is None:
-            self.scopes[-1] = _Scope(self.new_number(), frozenset(self._tokens[it][1] for it in variables))
-        for at in variables:
-            name = self._tokens[at][1]
+            self.scopes[-1] = _Scope(self.new_number(), frozenset(name for name, _ in variables))
+        for name, begin in variables:
             scope = next((it for it in reversed(self.scopes) if it is not None and name in it.listed), None)
             if scope is None and name in self.terms:
-                self.add(at, "term", self.terms[name])
+                kind, key = "term", self.terms[name]
             else:
                 first = scope or self.scopes[0]
-                self.add(at, "variable", ("variable", str(first.number if first else 0), name))
+                kind, key = "variable", ("variable", str(first.number if first else 0), name)
+            self.names.append(Name(name, begin, begin + len(name), kind, key))
