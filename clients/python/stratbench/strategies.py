@@ -42,7 +42,8 @@ class NoStrategy(ValueError):
 
 class Pattern(NamedTuple):
     """A pattern: a constructor's (or LIST, TAIL for a list with a tail, or TUPLE), with its parts, a string, an integer, a variable, or
-    another, which matches no more than its parts do: `x@p` has p, and one with annotations what is before these. A tail is no part."""
+    another, which matches no more than its parts do: `_` has none, `x@p` has p, and one with annotations what is before these. A tail is
+    no part."""
 
     kind: Literal["constructor", "string", "integer", "variable", "other"]
     name: str | bytes = ""
@@ -356,7 +357,7 @@ class Reader:
         elif self._taken("@"):
             return Pattern("other", "", (self._pattern(),))
         else:
-            found = Pattern("other") if token == "_" else Pattern("variable", token)
+            found = Pattern("other" if token == "_" else "variable", token)
         if self._taken("{"):
             self._terms("}")
             # a variable is bound to the term without its annotations

@@ -8,6 +8,7 @@ from collections.abc import Iterable, Iterator
 from typing import Any, Final
 
 from ..strategies import RESERVED
+from .costs import Bounds
 from .folder import Modules
 from .reading import Constructor, Definition, Module, Name, tokens_of
 from .texts import Text, uri_of
@@ -125,19 +126,38 @@ def _module_name(path: str, module: Module) -> str:
 
 
 def hover(modules: Modules, name: Name) -> dict[str, Any] | None:
-    """Returns what there is to know of a name: the text of its definition and the comment before it, or how it is declared."""
+    """Returns what there is to know of a name: the text of its definition, the comment before it, and how many steps it takes; or how it is
+    declared; or the sort of a variable."""
     meant = meaning(modules, name)
     parts: list[str] = []
     if meant.key[0] == "definition":
-        for path, text, it in modules.defining((name.name, int(meant.key[2]), int(meant.key[3]))):
+        key = (name.name, int(meant.key[2]), int(meant.key[3]))
+        for path, text, it in modules.defining(key):
             parts.append(_shown(_module_name(path, text.module), text.text[it.begin : it.end], it.comment))
+        bound = bounds_of(modules).of(key)
+        if bound:
+            parts = [*parts[:5], f"takes at most {bound} steps"]
     elif meant.key[0] == "constructor":
         for path, text, declared in modules.declaring(name.name, int(meant.key[2])):
-            parts.append(_shown(_module_name(path, text.module), text.text[declared.at : declared.end], ""))
+            parts.append(_shown(_module_name(path, text.module), text.text[declared.at : declared.end], declared.comment))
+    elif meant.key[0] in ("variable", "term"):
+        what = "a variable" if meant.key[0] == "variable" else "a term parameter"
+        sorts = _sorts_of(modules, meant)
+        parts.append(f"{what} of the sort `{sorts[0]}`" if len(sorts) == 1 else what)
     else:
-        parts.append({"strategy": "a strategy parameter", "term": "a term parameter", "rec": "stands for the whole of its `rec`",
-                      "variable": "a variable"}.get(meant.key[0], f"a {meant.key[0]}"))  # fmt: skip
+        parts.append({"strategy": "a strategy parameter", "rec": "stands for the whole of its `rec`"}.get(meant.key[0], f"a {meant.key[0]}"))
     return {"contents": {"kind": "markdown", "value": "\n\n".join(parts[:6])}} if parts else None
+
+
+def bounds_of(modules: Modules) -> Bounds:
+    """Returns the bounds of the steps of definitions."""
+    return Bounds(lambda key: [it for _, _, it in modules.defining(key)], modules.declaring)
+
+
+def _sorts_of(modules: Modules, meant: Meant) -> list[str]:
+    """Returns the sorts of a variable, by the constructors that it is a part of."""
+    parts = [it.part for _, _, it in occurrences(modules, meant) if it.part]
+    return sorted({declared.sorts[at] for name, terms, at in parts for _, _, declared in modules.declaring(name, terms)})
 
 
 def _shown(module: str, text: str, comment: str) -> str:

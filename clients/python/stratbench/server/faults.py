@@ -6,9 +6,12 @@ import os
 import re
 from typing import TYPE_CHECKING, Any, Final, Optional
 
-from ..diagnostics import Diagnostic, Label, Sentence
+from ..diagnostics import Label, Sentence
+from ..settings import Settings
+from . import answers
 from .checking import Said, Sent
-from .folder import Folder
+from .folder import Folder, Modules
+from .never import never
 from .texts import Text, uri_of
 
 if TYPE_CHECKING:
@@ -16,6 +19,9 @@ if TYPE_CHECKING:
 
 ERROR: Final = 1
 WARNING: Final = 2
+HINT: Final = 4
+# The tag of what can go.
+UNNECESSARY: Final = 1
 _NAME: Final = re.compile(r"[A-Za-z_][A-Za-z0-9_*+.$'-]{0,63}")
 
 
@@ -101,6 +107,23 @@ def faults_of(folder: Folder, own: str) -> dict[str, list[dict[str, Any]]]:
             name = (first.module if first else None) or it.module
             if name in modules.files and (it.module or name not in broken) and name not in modules.wrong:
                 found[modules.files[name]].append(_as_told(modules, it, name, sentence))
+    return found
+
+
+def oddities(modules: Modules, settings: Settings) -> dict[str, tuple[Text, list[dict[str, Any]]]]:
+    """Returns what may not be meant in the modules of a folder as a whole, by the file, with its text: definitions that nothing calls, where
+    the settings say what is called from outside, and rules that never match."""
+    found: dict[str, tuple[Text, list[dict[str, Any]]]] = {}
+
+    def add(path: str, text: Text, begin: int, end: int, **more: Any) -> None:
+        found.setdefault(path, (text, []))[1].append({"range": text.range(begin, end), "source": "stratbench", "tags": [UNNECESSARY], **more})
+
+    for path, text in modules.texts:
+        for it in never(text.module, lambda key: [one for _, _, one in modules.defining(key)]) if path else ():
+            message = f"it never matches: `{it.earlier}` is tried before it, and takes all that it could"
+            add(path, text, it.begin, it.end, severity=WARNING, code="never", message=message)
+    for path, text, one in answers.unused(modules, settings.entries) if settings.entries is not None else ():
+        add(path, text, one.at, one.at + len(one.name), severity=HINT, code="unused", message=f"nothing calls `{one.head}`")
     return found
 
 

@@ -49,7 +49,8 @@ class Token(NamedTuple):
 class Name(NamedTuple):
     """A name where it stands. `kind` is `definition`, `use` (of a definition, or else of a constructor, by its numbers of arguments),
     `constructor`, `strategy` and `term` (parameters), `rec`, `variable`, `sort`, `primitive` or `module`. Names that stand for the same have
-    equal `stands_for`. `is_binding` where it is introduced."""
+    equal `stands_for`. `is_binding` where it is introduced. A variable that is a part of a constructor in a pattern has that as `part`: its
+    name, its number of terms, and which of these it is."""
 
     name: str
     begin: int
@@ -59,6 +60,7 @@ class Name(NamedTuple):
     strategies: int = 0
     terms: int = 0
     is_binding: bool = False
+    part: Optional[tuple[str, int, int]] = None
 
     @property
     def key(self) -> tuple[str, int, int]:
@@ -67,7 +69,8 @@ class Name(NamedTuple):
 
 
 class Definition(NamedTuple):
-    """A definition: its parameters, the places of its name and of the whole, and the comment before it."""
+    """A definition: its parameters, the places of its name and of the whole, the comment before it, and its body, where the text has all of
+    that."""
 
     name: str
     strategies: tuple[str, ...]
@@ -77,6 +80,7 @@ class Definition(NamedTuple):
     begin: int
     end: int
     comment: str
+    body: Optional[Strategy] = None
 
     @property
     def key(self) -> tuple[str, int, int]:
@@ -91,13 +95,14 @@ class Definition(NamedTuple):
 
 
 class Constructor(NamedTuple):
-    """A constructor as it is declared."""
+    """A constructor as it is declared, and the comment after it in its line."""
 
     name: str
     sorts: tuple[str, ...]
     own: str
     at: int
     end: int
+    comment: str
 
     @property
     def key(self) -> tuple[str, int]:
@@ -123,10 +128,16 @@ class Module:
     constructors: tuple[Constructor, ...]
     sections: tuple[Section, ...]
     names: tuple[Name, ...]
+    # where calls and closures are, each with what was read
+    steps: tuple[tuple[Strategy, int, int], ...]
 
     def name_at(self, place: int) -> Name | None:
         """Returns the name at a place, or one that ends there."""
         return next((it for it in self.names if it.begin <= place <= it.end), None)
+
+    def place_of(self, it: Strategy) -> tuple[int, int] | None:
+        """Returns where a call or a closure of this module is."""
+        return next(((begin, end) for one, begin, end in self.steps if one is it), None)
 
     def definition_at(self, place: int) -> Definition | None:
         """Returns the definition at a place."""
@@ -190,6 +201,10 @@ def _token(found: re.Match[str]) -> Token:
     return Token("reserved" if kind == "word" and found[0] in RESERVED else kind, found[0], found.start(), found.end())
 
 
+def _without_signs(comment: str) -> str:
+    return re.sub(r"^//\s?|^/\*+\s?|\s?\*+/$", "", comment)
+
+
 def name_of(text: str) -> str | None:
     """Returns the name that a module gives itself.
 
@@ -206,8 +221,16 @@ def read(text: str) -> Module:
     reader.read_module()
     return Module(
         reader.name, tuple(reader.every), tuple(reader.found), tuple(reader.constructors), tuple(reader.sections),
-        tuple(sorted(reader.names, key=lambda it: it.begin)),
+        tuple(sorted(reader.names, key=lambda it: it.begin)), tuple(reader.steps),
     )  # fmt: skip
+
+
+class _Variable(NamedTuple):
+    """A variable of a pattern: its place, and in which pattern, by the constructor's token, which part it is."""
+
+    name: str
+    begin: int
+    inside: Optional[tuple[int, int]]
 
 
 class _Scope(NamedTuple):
@@ -230,15 +253,18 @@ class _Reader(Reader):
         self.constructors: list[Constructor] = []
         self.sections: list[Section] = []
         self.names: list[Name] = []
+        self.steps: list[tuple[Strategy, int, int]] = []
         # The scopes around this place: none for that of a closure, until its left side was read.
         self.scopes: list[Optional[_Scope]] = []
         # The strategies that names may stand for here, and the term parameters, with what tells them apart.
         self.reach: list[tuple[str, tuple[str, ...]]] = []
         self.terms: dict[str, tuple[str, ...]] = {}
         self.count = 0
-        # The variables of the pattern that is being read, each with its place, and how many patterns are open.
-        self.variables: list[tuple[str, int]] = []
-        self.depth = 0
+        # The variables of the pattern that is being read, and the patterns that are open: each with the constructor's token, if it is one's,
+        # and how many parts were begun; and the constructors that were read, by their tokens.
+        self.variables: list[_Variable] = []
+        self.around: list[tuple[int, int]] = []
+        self.parts: dict[int, tuple[str, int]] = {}
         super().__init__(text, _TOKEN)
 
     # ---- tokens
@@ -348,7 +374,7 @@ class _Reader(Reader):
         else:
             sorts, own = [], sorts[0]
         self.add(at, "constructor", ("constructor", name, str(len(sorts))), len(sorts), binding=True)
-        self.constructors.append(Constructor(name, tuple(sorts), own, self._spans[at][0], self.end))
+        self.constructors.append(Constructor(name, tuple(sorts), own, self._spans[at][0], self.end, self.comment_after()))
 
     # ---- definitions
 
@@ -369,14 +395,23 @@ class _Reader(Reader):
         for it, place in terms:
             self.add(place, "term", self.terms[it], binding=True)
         self.scopes = [_Scope(self.new_number(), frozenset())]
-        self.variables, self.depth = [], 0
+        self.variables, self.around, self.parts = [], [], {}
         begin, end = self._spans[at]
         own, others = tuple(it for it, _ in strategies), tuple(it for it, _ in terms)
         self.found.append(Definition(name, own, others, self._next == ":", begin, begin, end, self.comment_before(at)))
         try:
-            return name, Read(own, others, self._body())
+            body = self._body()
+            self.found[-1] = self.found[-1]._replace(body=body)
+            return name, Read(own, others, body)
         finally:
             self.found[-1] = self.found[-1]._replace(end=self.end)
+
+    def comment_after(self) -> str:
+        """The comment after the token before this one, in its line."""
+        place = self.places[self._at - 1] + 1
+        token = self.every[place] if place < len(self.every) else None
+        is_there = token is not None and token.kind == "comment" and "\n" not in self.text[self.end : token.begin]
+        return _without_signs(token.text) if token is not None and is_there else ""
 
     def comment_before(self, at: int) -> str:
         """The comments before the token of this number, of lines that follow one another."""
@@ -388,7 +423,7 @@ class _Reader(Reader):
             before = self.text[self.text.rfind("\n", 0, token.begin) + 1 : token.begin]
             if self.text.count("\n", token.end, begin) > 1 or before.strip():
                 break
-            lines.insert(0, re.sub(r"^//\s?|^/\*+\s?|\s?\*+/$", "", token.text))
+            lines.insert(0, _without_signs(token.text))
             begin = token.begin
         return "\n".join(lines)
 
@@ -448,7 +483,11 @@ class _Reader(Reader):
 
     def _primary(self) -> Strategy:
         if self._next != "~":
-            return super()._primary()
+            begin = self._spans[self._at][0]
+            found = super()._primary()
+            if found.kind in ("call", "closure"):
+                self.steps.append((found, begin, self.end))
+            return found
         # a congruence, whose metavariables are strategies
         self.take()
         if self._kind != "quote":
@@ -463,20 +502,24 @@ class _Reader(Reader):
     def _pattern(self) -> Pattern:
         at, is_name = self._at, self._kind == "word"
         is_constructor = is_name and self._tokens[at + 1][1] == "("
+        inside = self.around.pop() if self.around else None
+        if inside:
+            self.around.append((inside[0], inside[1] + 1))
         if is_name and not is_constructor and self._next != "_":
-            self.variables.append((self._next, self._spans[at][0]))
-        self.depth += 1
+            self.variables.append(_Variable(self._next, self._spans[at][0], inside))
+        self.around.append((at if is_constructor else -1, 0))
         if self._kind == "quote":
-            self.variables += self.quoted()
+            self.variables += [_Variable(name, begin, None) for name, begin in self.quoted()]
             found = Pattern("other")
         else:
             found = super()._pattern()
-        self.depth -= 1
+        self.around.pop()
         if is_constructor:
             # with annotations it is a part of what was read
             count = len((found.parts[0] if found.kind == "other" else found).parts)
+            self.parts[at] = self._tokens[at][1], count
             self.add(at, "constructor", ("constructor", self._tokens[at][1], str(count)), count)
-        if self.depth == 0:
+        if not self.around:
             self.resolve(self.variables)
             self.variables = []
         return found
@@ -486,15 +529,18 @@ class _Reader(Reader):
         begin = self._spans[self._at][0]
         return [(it[1], begin + it.start(1)) for it in _VARIABLE.finditer(self.take()) if it[1] != "_"]
 
-    def resolve(self, variables: list[tuple[str, int]]) -> None:
+    def resolve(self, variables: list[_Variable]) -> None:
         """Takes note of what the variables of a pattern stand for. Those of the left side of a closure are its own."""
         if self.scopes[-1] is None:
-            self.scopes[-1] = _Scope(self.new_number(), frozenset(name for name, _ in variables))
-        for name, begin in variables:
+            self.scopes[-1] = _Scope(self.new_number(), frozenset(it.name for it in variables))
+        for name, begin, inside in variables:
             scope = next((it for it in reversed(self.scopes) if it is not None and name in it.listed), None)
             if scope is None and name in self.terms:
                 kind, key = "term", self.terms[name]
             else:
                 first = scope or self.scopes[0]
                 kind, key = "variable", ("variable", str(first.number if first else 0), name)
-            self.names.append(Name(name, begin, begin + len(name), kind, key))
+            part = (*self.parts[inside[0]], inside[1]) if inside and inside[0] in self.parts else None
+            # what comes after the parts are annotations
+            part = part if part and part[2] < part[1] else None
+            self.names.append(Name(name, begin, begin + len(name), kind, key, part=part))

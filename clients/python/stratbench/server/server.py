@@ -19,7 +19,6 @@ from .texts import Text, path_of, uri_of
 
 # Errors of JSON-RPC and of the protocol.
 _NO_METHOD, _FAILED, _NOT_BEGUN = -32601, -32803, -32002
-_HINT, _UNNECESSARY = 4, 1
 _CAPABILITIES: Final = {
     "positionEncoding": "utf-16",
     "textDocumentSync": {"openClose": True, "change": 2, "save": {}},
@@ -55,11 +54,17 @@ class Server:
     def __init__(self, out: IO[bytes], program: str) -> None:
         self.out = out
         self.program = program
+        # those that the editor has sent, and that wait
+        self.messages: queue.SimpleQueue[dict[str, Any] | None] = queue.SimpleQueue()
         self.buffers: dict[str, Text] = {}
         self.folders: dict[str, Folder] = {}
         # The files whose folders are to be looked at again, and those that have diagnostics.
         self.dirty: dict[str, None] = {}
         self.told: dict[str, set[str]] = {}
+        # by folder: what is wrong with each file, what is odd in it, with the text that is, and a file of those in which nothing is wrong
+        self.found: dict[str, dict[str, list[dict[str, Any]]]] = {}
+        self.odd: dict[str, dict[str, tuple[Text, list[dict[str, Any]]]]] = {}
+        self.sound: dict[str, str] = {}
         self.has_ended = False
         self.is_begun = False
 
@@ -67,7 +72,7 @@ class Server:
 
     def run(self, source: IO[bytes]) -> int:
         """Answers messages until the editor ends it. Returns the exit status: 0 if it was asked to shut down before."""
-        messages: queue.SimpleQueue[dict[str, Any] | None] = queue.SimpleQueue()
+        messages = self.messages
 
         def read() -> None:
             message: dict[str, Any] | None = {}
@@ -83,6 +88,8 @@ class Server:
                 self.take(message)
                 if self.dirty and messages.empty():
                     self.look()
+                if self.sound and messages.empty():
+                    self.look_again()
                 message = messages.get()
         finally:
             for folder in self.folders.values():
@@ -140,7 +147,8 @@ class Server:
         if others:
             self.dirty[others[0]] = None
         else:
-            self.publish(os.path.dirname(path), {})
+            self.found.pop(os.path.dirname(path), None)
+            self.publish(os.path.dirname(path))
 
     def save(self, given: dict[str, Any]) -> None:
         self.dirty[path_of(given["textDocument"]["uri"])] = None
@@ -150,35 +158,47 @@ class Server:
         paths, self.dirty = self.dirty, {}
         for name in {os.path.dirname(it) for it in paths}:
             own = next(it for it in reversed(paths) if os.path.dirname(it) == name)
-            folder = self.folder(own)
             try:
-                found = faults.faults_of(folder, own)
-                self.add_unused(folder, own, found)
+                self.found[name] = faults.faults_of(self.folder(own), own)
             except _WRONG as why:
                 self.tell("window/showMessage", {"type": 1, "message": f"stratbench: {why}"})
                 continue
-            self.publish(name, found)
+            self.publish(name)
+            # what is odd is looked for where nothing is wrong, when there is time
+            if not any(it["severity"] == faults.ERROR for every in self.found[name].values() for it in every):
+                self.sound[name] = own
 
-    def add_unused(self, folder: Folder, own: str, found: dict[str, list[dict[str, Any]]]) -> None:
-        entries = folder.settings().entries
-        if entries is None:
-            return
-        for path, text, it in answers.unused(folder.modules(own), entries):
-            found[path].append({
-                "range": text.range(it.at, it.at + len(it.name)), "severity": _HINT, "code": "unused", "source": "stratbench",
-                "message": f"nothing calls `{it.head}`", "tags": [_UNNECESSARY],
-            })  # fmt: skip
+    def look_again(self) -> None:
+        """Publishes what may be wrong with whole folders that were looked at."""
+        while self.sound:
+            name, own = self.sound.popitem()
+            try:
+                modules = self.folder(own).modules(own)
+                for _, text in modules.texts:
+                    # to read them all takes longer than a message may wait
+                    if not self.messages.empty():
+                        self.sound[name] = own
+                        return
+                    assert text.module
+                found = faults.oddities(modules, self.folder(own).settings())
+            except _WRONG:
+                # which is said when the folder is looked at
+                continue
+            if found != self.odd.get(name, {}):
+                self.odd[name] = found
+                self.publish(name)
 
-    def publish(self, name: str, found: dict[str, list[dict[str, Any]]]) -> None:
-        """Publishes the diagnostics of files, and takes those away that the folder had before."""
+    def publish(self, name: str) -> None:
+        """Publishes the diagnostics of a folder's files, and takes those away that it had before. What is odd counts for a text alone."""
+        found = {path: list(every) for path, every in self.found.get(name, {}).items()}
+        for path, (text, every) in self.odd.get(name, {}).items():
+            if path in found and self.folders[name].text(path) is text:
+                found[path] += every
         before = self.told.get(name, set())
         self.told[name] = {path for path, every in found.items() if every}
         for path in sorted({*found, *before}):
             every = found.get(path, [])
             if every or path in before or path in self.buffers:
-                for it in every:
-                    for related in it.get("relatedInformation", ()):
-                        related["location"]["uri"] = related["location"]["uri"] or uri_of(path)
                 self.tell("textDocument/publishDiagnostics", {"uri": uri_of(path), "diagnostics": every})
 
     # ---- requests
