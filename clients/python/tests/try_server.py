@@ -4,6 +4,7 @@ where they aren't there and that can be done."""
 import doctest
 import glob
 import importlib
+import json
 import os
 import random
 import re
@@ -13,6 +14,7 @@ import subprocess
 import sys
 import tempfile
 import time
+import xml.etree.ElementTree
 
 import packages
 from stratbench.server import answers, layout, reading
@@ -21,6 +23,7 @@ from stratbench.server.folder import Folder, Modules
 from stratbench.server.messages import receive, send
 from stratbench.server.never import never
 from stratbench.server.texts import Text, path_of, uri_of
+from stratbench.strategies import RESERVED
 
 CLIENT = os.path.dirname(os.path.dirname(os.path.realpath(__file__)))
 EXAMPLE = re.compile(r"^ *// example: (.+) on (.+?) (?:gives .+|fails)$", re.MULTILINE)
@@ -651,6 +654,61 @@ def told(room, module, *words, given=""):
     return subprocess.run([sys.executable, "-m", module, *words], cwd=room, env=environment, input=given, capture_output=True, text=True)
 
 
+# What Vim shows the beginnings of pieces of this text as.
+COLOURED = """module m
+rules
+  R : F(x,"a\\"b") -> `f($x)` // c
+strategies
+  f-g(s|t) = s; all(id) /* d */
+"""
+COLOURS = [
+    ("module", "strategoSection"), ("R :", "strategoDefinition"), ("F(", "strategoConstructor"), ("x,", "strategoVariable"),
+    ("\"a", "strategoString"), ("\\\"", "strategoEscape"), ("-> `", "strategoOperator"), ("$x", "strategoMeta"), ("// c", "strategoComment"),
+    ("f-g", "strategoDefinition"), ("all", "strategoForm"), ("/* d", "strategoComment"),
+]  # fmt: skip
+
+
+def vims(top):
+    """Vim and Neovim know the type of modules, colour them, and indent them as the layout does."""
+    files = sorted(glob.glob(f"{top}/strategies/*.str") + glob.glob(f"{top}/examples/*/*.str"))
+    for words in (["nvim", "--headless", "-u", "NONE", "-i", "NONE", "-n"], ["vim", "-es", "-u", "NONE", "-i", "NONE", "-n", "-N"]):
+        if not shutil.which(words[0]):
+            yield f"{words[0]}: left out, since there is none", ""
+            continue
+        with tempfile.TemporaryDirectory() as room:
+            every = [layout.laid_out(contents(it)) for it in files]
+            new = [written(room, f"{number}.str", re.sub(r"(?m)^ +", "", it)) for number, it in enumerate(every)]
+            path = written(room, "colours.str", COLOURED)
+            places = [Text(COLOURED).line_and_column(COLOURED.index(it)) for it, _ in COLOURS]
+            names = ",".join(f'synIDattr(synID({line}, {column}, 1), "name")' for line, column in places)
+            script = [f"set runtimepath^={top}/clients/editors/vim", "filetype plugin indent on", "syntax on"]
+            for it in new:
+                script += [f"silent edit {it}", "silent normal! gg=G", "silent write!"]
+            script += [f"silent edit {path}", f'call writefile([&filetype, {names}], "{room}/out")', "qall!"]
+            source = written(room, "script.vim", "\n".join(script) + "\n")
+            ran = subprocess.run([*words, "-S", source], capture_output=True, text=True, stdin=subprocess.DEVNULL, timeout=300)
+            got = contents(f"{room}/out").split("\n") if os.path.exists(f"{room}/out") else [f"{ran}"]
+            wanted = ["stratego", *(it for _, it in COLOURS), ""]
+            yield f"colours of {words[0]}", "" if got == wanted else f"{[it for it in zip(got, wanted) if it[0] != it[1]]} {ran.stderr}"
+            other = [file for file, it, text in zip(files, new, every) if contents(it) != text]
+            yield f"{words[0]} indents {len(files)} modules", "\n".join(other)
+
+
+def words_of_editors(top):
+    """The editors' files have the reserved words, and the server's command."""
+    folder = f"{top}/clients/editors"
+    kate = [it.text for it in xml.etree.ElementTree.parse(f"{folder}/kate/stratego.xml").iter("item")]
+    lines = re.findall(r"^syntax keyword stratego(?:Section|Form) (.*)$", contents(f"{folder}/vim/syntax/stratego.vim"), re.MULTILINE)
+    emacs = re.findall(r"regexp-opt '\((.*?)\)", contents(f"{folder}/emacs/stratego-mode.el"))
+    found = {"Kate": kate, "Vim": " ".join(lines).split(), "Emacs": re.findall(r'"(\w+)"', " ".join(emacs))}
+    for name, words in found.items():
+        yield f"the reserved words of {name}", "" if sorted(words) == sorted(RESERVED) else f"{set(words) ^ RESERVED}"
+    command = json.loads(contents(f"{folder}/kate/settings.json"))["servers"]["stratego"]["command"]
+    helix = re.findall(r'^(?:command|args) = (.*)$', contents(f"{folder}/helix/languages.toml"), re.MULTILINE)
+    same = command == ["python3", "-m", "stratbench.server"] == [json.loads(helix[0]), *json.loads(helix[1])]
+    yield "the command of Kate and Helix", "" if same else f"{command} {helix}"
+
+
 def real(link):
     try:
         return os.readlink(link)
@@ -703,5 +761,7 @@ def tests(top, everything):
     yield from mistakes(top)
     yield from names_change(top)
     yield from through_neovim()
+    yield from words_of_editors(top)
+    yield from vims(top)
     yield from through_emacs(top)
     yield from by_code(top)

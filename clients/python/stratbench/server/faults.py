@@ -120,7 +120,7 @@ def oddities(modules: Modules, settings: Settings) -> dict[str, tuple[Text, list
 
     for path, text in modules.texts:
         for it in never(text.module, lambda key: [one for _, _, one in modules.defining(key)]) if path else ():
-            message = f"it never matches: `{it.earlier}` is tried before it, and takes all that it could"
+            message = f"never matches: `{it.earlier}` before it takes all that it would"
             add(path, text, it.begin, it.end, severity=WARNING, code="never", message=message)
     for path, text, one in answers.unused(modules, settings.entries) if settings.entries is not None else ():
         add(path, text, one.at, one.at + len(one.name), severity=HINT, code="unused", message=f"nothing calls `{one.head}`")

@@ -1,0 +1,2 @@
+" Modules of stratbench.
+autocmd BufRead,BufNewFile *.str setfiletype stratego
