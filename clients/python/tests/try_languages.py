@@ -10,6 +10,7 @@ import re
 import sys
 import tempfile
 import zipfile
+import zlib
 
 import grammars
 import layouts
@@ -48,32 +49,40 @@ FOLDERS = {"javascript": "/usr/share/nodejs", "json": "/usr/share/nodejs", "yaml
 SOURCES = "/usr/lib/jvm/*/lib/src.zip"
 
 
+def sampled(checksums, count):
+    """So many of some files, by their names: those of the lowest hashes of name and contents, whose checksums are given. What is tried is the
+    same wherever the files are the same, and a file that is tried among many is tried among fewer of them, too."""
+    return sorted(checksums, key=lambda it: (zlib.crc32(it.encode(errors="surrogateescape"), checksums[it]), it))[:count]
+
+
 def jdk_sources(room, count):
     """So many of the JDK's sources, in a folder."""
     for archive in sorted(it for it in glob.glob(SOURCES) if os.path.exists(it)):
         with zipfile.ZipFile(archive) as it:
-            names = [one.filename for one in it.infolist() if re.match(r"java.base/java/(util|io|time)/.*[a-z]\.java", one.filename) and 500 < one.file_size < 40_000]
-            names = sorted(names)[:: max(1, len(names) // count)][:count]
+            some = (one for one in it.infolist() if re.match(r"java.base/java/(util|io|time)/.*[a-z]\.java", one.filename))
+            names = sampled({one.filename: one.CRC for one in some if 500 < one.file_size < 40_000}, count)
             it.extractall(room, names)
             return [f"{room}/{name}" for name in names]
     return []
 
 
-def real_files(name, room):
-    """The files of a language that the machine has, of a size that is soon done."""
+def real_files(name, room, count):
+    """So many files of a language that the machine has, of a size that is soon done."""
     if name == "java":
-        return jdk_sources(room, 30)
-    found = []
+        return jdk_sources(room, min(count, 30))
+    checksums = {}
     for folder, _, files in os.walk(FOLDERS[name]):
-        found += [f"{folder}/{it}" for it in files if languages.name_of(it) == name]
-    return sorted(it for it in found if os.path.isfile(it) and 500 < os.path.getsize(it) < 30_000)
+        for it in (f"{folder}/{it}" for it in files if languages.name_of(it) == name):
+            if os.path.isfile(it) and 500 < os.path.getsize(it) < 30_000:
+                with open(it, "rb") as opened:
+                    checksums[it] = zlib.crc32(opened.read())
+    return sampled(checksums, count)
 
 
 def fitting(name, everything, room):
     """Whether the grammar fits real files, and each made wholly anew has the same tree."""
     language = languages.named(name)
-    files = real_files(name, room)
-    files = files[:: max(1, len(files) // (200 if everything else 40))]
+    files = real_files(name, room, 200 if everything else 40)
     if not files:
         yield f"{name}: this machine has no files", ""
         return
