@@ -10,6 +10,7 @@ from typing import Final, NamedTuple, Optional
 from ..terms import LIST, Term, position
 from .edits import Cannot
 from .grammar import Constructor, Field, Grammar, Group, Part, Sign
+from .origins import Origins
 
 _BLANKS: Final = re.compile(rb"[ \t]*")
 _WORD: Final = re.compile(rb"[\w$]")
@@ -47,36 +48,15 @@ class Layout:
         self.grammar, self.text, self.tree = grammar, text, tree
         self._comment, self._line_comments = comment, line_comments
         self.newline = b"\r\n" if b"\r\n" in text else b"\n"
-        self.origins: dict[tuple[int, int, str], Term] = {}
-        # the list of each element, and its place there
-        self.homes: dict[int, tuple[Term, int]] = {}
+        self.origins = Origins(tree, grammar.constructors)
+        self.origin, self.homes = self.origins.of, self.origins.homes
         self._spots: dict[int, dict[str, list[Spot]]] = {}
         self._comments: Optional[list[Comment]] = None
-        constructors = grammar.constructors
-        waiting = [tree]
-        while waiting:
-            it = waiting.pop()
-            head, children, annotations = it
-            if annotations and head in constructors:
-                place = position(it)
-                if place is not None:
-                    self.origins[(*place, str(head))] = it
-            elif head == LIST:
-                for at, child in enumerate(children):
-                    self.homes[id(child)] = (it, at)
-            waiting.extend(children)
-
-    def origin(self, term: Term) -> Optional[Term]:
-        """Returns the old node that a node of the new tree is, or was with other parts."""
-        if not term.annotations:
-            return None
-        place = position(term)
-        return None if place is None else self.origins.get((*place, str(term.head)))
 
     def missing(self) -> frozenset[str]:
         """Returns the signs that the text does without, mostly, at the end of nodes where they may be missing."""
         there: Counter[str] = Counter()
-        for (_, last, head), _ in self.origins.items():
+        for _, last, head in self.origins.found:
             parts = self.grammar.constructors[head].parts
             end = parts[-1] if parts else None
             if isinstance(end, Sign) and end.may_miss:

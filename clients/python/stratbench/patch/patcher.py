@@ -4,8 +4,6 @@ from __future__ import annotations
 
 from collections.abc import Sequence
 from functools import cached_property
-from operator import is_
-from typing import Optional
 
 from ..terms import NoTerm, Term
 from .brackets import Parse, Search
@@ -45,30 +43,11 @@ class Patcher:
     def __init__(self, dialect: Dialect, text: bytes, old: Term, new: Term, parse: Parse) -> None:
         self._dialect, self._text, self._old, self._parse = dialect, text, old, parse
         self.layout = Layout(dialect.grammar, text, old, dialect.comment, dialect.line_comments)
-        self.new = self._shared(new, old)
+        self.new = self.layout.origins.shared(new, old, self._checked)
         self.parses = 0
         self._brackets = OldBrackets(dialect, self.layout, parse)
 
-    # The new tree with the old nodes where nothing changed, so that `is` compares them.
-    def _shared(self, new: Term, candidate: Optional[Term]) -> Term:
-        if candidate is new:
-            return new
-        head, children, annotations = new
-        if annotations:
-            candidate = self.layout.origin(new)
-            if candidate is new:
-                return new
-        old = candidate.children if candidate is not None else ()
-        if children:
-            if len(children) == len(old):
-                children = tuple([self._shared(it, other) for it, other in zip(children, old)])
-            else:
-                children = tuple([self._shared(it, old[at] if at < len(old) else None) for at, it in enumerate(children)])
-        # an old node with this position has this head, and no other annotation
-        if candidate is not None and len(children) == len(old) and len(annotations) == len(candidate.annotations):
-            if type(head) is type(candidate.head) and head == candidate.head and all(map(is_, children, old)):
-                return candidate
-        made = Term(head, children, annotations)
+    def _checked(self, made: Term) -> Term:
         self._dialect.grammar.check(made)
         return made
 

@@ -54,7 +54,7 @@ def _literal(term: Term, like: bytes, style: Style) -> Optional[bytes]:
 
 # New strings have the quotation marks that most have.
 def _style(layout: Layout) -> Style:
-    quotes = [layout.text[first : first + 1] for first, _, head in layout.origins if head == "StringLiteral"]
+    quotes = [layout.text[first : first + 1] for first, _, head in layout.origins.found if head == "StringLiteral"]
     return Style(b'"' if quotes.count(b'"') > quotes.count(b"'") else b"'", unit_of(layout.text, b"  "))
 
 

@@ -9,8 +9,9 @@ from collections.abc import Sequence
 from functools import cached_property
 from typing import Callable, NamedTuple
 
-from ..source import CONSTRUCTORS, Source, position
-from ....terms import LIST, Term
+from ..source import CONSTRUCTORS, Source
+from ....patch.origins import Origins
+from ....terms import Term
 from .comments import Marks
 from .edits import COMPREHENSIONS, DEFINITIONS, DISPLAYS, Cannot, Edit, apply_edits, field_of, normal, parts_of, span
 from .former import Former
@@ -36,26 +37,9 @@ class Trees:
         self.source, self.text = source, source.text
         self.marks = marks or Marks(source.text)
         self.old = source.term
-        self.origins: dict[tuple[int, int, object], Term] = {}
-        self.homes: dict[int, tuple[Term, int]] = {}
-        # the literals and comprehensions that nodes are parts of
-        self.owners: dict[int, Term] = {}
-        waiting = [self.old]
-        while waiting:
-            it = waiting.pop()
-            place = position(it)
-            if place is not None and it.head in CONSTRUCTORS:
-                self.origins[(*place, it.head)] = it
-            if it.head in DISPLAYS:
-                self.owners.update((id(child), it) for child in it.children[0].children)
-            elif it.head in COMPREHENSIONS:
-                self.owners.update((id(child), it) for child in parts_of(it))
-            if it.head == LIST:
-                for at, child in enumerate(it.children):
-                    if child.children or child.annotations:
-                        self.homes[id(child)] = (it, at)
-            waiting.extend(it.children)
-        self.new = self._shared(new, self.old)
+        self._origins = Origins(self.old, CONSTRUCTORS)
+        self.origin, self.homes = self._origins.of, self._origins.homes
+        self.new = self._origins.shared(new, self.old, normal)
         # whether changed statements are made anew as a whole
         self.plain = False
         # the comments that go with statements to other places: by the pass before, and so far by this one, with the ids of the statements or
@@ -77,25 +61,11 @@ class Trees:
         """What the new nodes were, which is asked only where they aren't old ones themselves."""
         return Former(self.old, self.new, self.origin)
 
-    # The new tree with the old nodes in the places where nothing changed, so that `is` compares them.
-    def _shared(self, new: Term, candidate: Term | None) -> Term:
-        place = position(new)
-        if place is not None and isinstance(new.head, str):
-            candidate = self.origins.get((*place, new.head), candidate)
-        if candidate is new:
-            return new
-        old = candidate.children if candidate is not None else ()
-        children = tuple([self._shared(it, old[at] if at < len(old) else None) for at, it in enumerate(new.children)])
-        if (
-            candidate is not None
-            and type(new.head) is type(candidate.head)
-            and new.head == candidate.head
-            and new.annotations == candidate.annotations
-            and len(children) == len(old)
-            and all(one is two for one, two in zip(children, old))
-        ):
-            return candidate
-        return normal(Term(new.head, children, new.annotations))
+    @cached_property
+    def owners(self) -> dict[int, Term]:
+        """The literals and comprehensions that nodes, by their ids, are parts of."""
+        owners = (it for it in self._origins.found.values() if it.head in DISPLAYS or it.head in COMPREHENSIONS)
+        return {id(part): it for it in owners for part in parts_of(it)}
 
     def tried(self, edits: Callable[[], list[Edit]]) -> list[Edit] | None:
         """Edits, or nothing where they can't be made. Then no comments go elsewhere by them."""
@@ -105,11 +75,6 @@ class Trees:
         except Cannot:
             del self.carrying[before:]
             return None
-
-    def origin(self, term: Term) -> Term | None:
-        """The old node that a new one has the position of."""
-        place = position(term)
-        return None if place is None else self.origins.get((*place, term.head))
 
     def was(self, statement: Term) -> Term | None:
         """The statement that a new one was. What is made anew as a whole was none."""
