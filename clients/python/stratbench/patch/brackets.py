@@ -10,6 +10,7 @@ from ..terms import LIST, Term, plain, position, read
 from ..terms import at as subterm
 from .dialect import Alone, Wrong
 from .edits import Unwritable
+from .fewest import fewest
 from .grammar import Grammar
 from .layout import span
 from .nodes import Frame
@@ -184,33 +185,15 @@ class _Local:
         """Returns those that are needed of these, or nothing where the statement can't be parsed alone."""
         if self._is_right(set()):
             return set()
-        active = set(marks)
-        if not self._is_right(active):
+        if not self._is_right(set(marks)):
             # brackets may be wrong somewhere: one is enough, mostly
             return next(({it} for it in marks if self._is_right({it})), None)
-        # the outer ones first: those around a part of what they are around look better
-        for some in _halves(sorted(marks, reverse=True)):
-            if some <= active and self._is_right(active - some):
-                active -= some
-        return active
+        return fewest(marks, self._is_right)
 
     def _is_right(self, active: Set[int]) -> bool:
         text = self._search.rendered(self._edits, active | self._known, self._first, self._last).text
         got = self._search.parsed(self._alone.before + text + self._alone.after)
         return not isinstance(got, Wrong) and self._search.is_same(self._new, subterm(read(got), self._alone.path))
-
-
-# The whole, its halves, their halves, down to one.
-def _halves(some: Sequence[int]) -> list[set[int]]:
-    found: list[set[int]] = []
-    waiting = [list(some)]
-    while waiting:
-        it = waiting.pop(0)
-        if len(it) > 1 or it == list(some):
-            middle = len(it) // 2
-            waiting += [half for half in (it[:middle], it[middle:]) if half and len(it) > 1]
-        found.append(set(it))
-    return found
 
 
 class Compared:

@@ -12,7 +12,7 @@ from .markers import name_of
 from .moved import Moved
 from .nodes import Nodes
 from .statements import Statements
-from .trees import Place, Trees
+from .trees import Trees
 
 
 class Clauses:
@@ -24,7 +24,7 @@ class Clauses:
     def clause(self, old: Term, new: Term, name: str) -> list[Edit]:
         """The edits for a block of a statement, with its `else` or `finally`."""
         one, two = field_of(old, name).children, field_of(new, name).children
-        outer = self._trees.indent(self._case(old) if old.head == "match_case" else span(old)[0])
+        outer = self._trees.indent(self._trees.begin(old))
         inner = outer + self._trees.tokens.unit
         if name == "body":
             return self._statements.block(old, new, name, inner)
@@ -51,7 +51,7 @@ class Clauses:
                 self._trees.staying.add(id(field_of(old, name)))
             return self._statements.block(old, new, name, inner)
         if len(two) == 1 and two[0].head == "If" and self._trees.origin(two[0]) in (None, one[0]) and not self._trees.plain:
-            found = self._trees.tried(lambda: self._nodes.inside(one[0], two[0]))
+            found = self._trees.tried(lambda: self._nodes.settled(one[0], two[0]))
             if found is not None:
                 return found
         begin = self._trees.leading_comments(begin, self._trees.carried)
@@ -97,7 +97,7 @@ class Clauses:
                 pairs_of_gap.append((one[old_to], two[new_to]))
             for it, other in pairs_of_gap:
                 if it is not other:
-                    edits += self._nodes.fields(Place(it, other), it, other)
+                    edits += self._nodes.settled(it, other)
             edits += [self._without_part(it) for it in goes[len(comes) :]]
             if len(comes) > len(goes):
                 edits.append(self._more_parts(old, name, one[:old_to], comes[len(goes) :]))
@@ -107,12 +107,9 @@ class Clauses:
     def _named(self, part: Term) -> Term:
         return field_of(part, "pattern") if part.head == "match_case" else part
 
-    def _part_begin(self, part: Term) -> int:
-        return self._case(part) if part.head == "match_case" else span(part)[0]
-
     # The edit without a handler or a case, and without the comments in it.
     def _without_part(self, part: Term) -> Edit:
-        begin = self._part_begin(part)
+        begin = self._trees.begin(part)
         last = field_of(part, "body").children[-1]
         end = self._trees.tail(self._trees.statement_end(last)[0], self._trees.indent(begin), False)
         return Edit(self._trees.line_start(begin), self._trees.line_end(end)[1], b"")
@@ -121,7 +118,7 @@ class Clauses:
     def _more_parts(self, old: Term, name: str, before: tuple[Term, ...], comes: tuple[Term, ...]) -> Edit:
         if name == "cases" and not before:
             raise Cannot
-        outer = self._trees.indent(self._part_begin(before[0]) if before else span(old)[0])
+        outer = self._trees.indent(self._trees.begin(before[0]) if before else span(old)[0])
         text = self._fresh_parts(str(old.head), comes, outer)
         last = field_of(before[-1] if before else old, "body").children[-1]
         while last.head in BLOCKS:
@@ -138,13 +135,6 @@ class Clauses:
         whole = self._fresh.statement(Term(head, (Term(LIST, (PASS,)), Term(LIST, parts), empty, empty)), indent)
         return whole.split(self._trees.newline, 2)[2][len(indent) :]
 
-    # Where a `case` begins, which has no position.
-    def _case(self, case: Term) -> int:
-        at = self._trees.tokens.before(span(field_of(case, "pattern"))[0])
-        while self._trees.tokens.tokens[at].text != "case":
-            at -= 1
-        return self._trees.tokens.tokens[at].first
-
     def decorators(self, old: Term, new: Term) -> list[Edit]:
         """Decorators, each on a line of its own."""
         one, two = field_of(old, "decorator_list").children, field_of(new, "decorator_list").children
@@ -153,7 +143,7 @@ class Clauses:
         pairs = aligned([homes.get(id(self._trees.origin(it))) for it in two])
         edits: list[Edit] = []
         for before, after in pairs:
-            edits += self._nodes.node(one[before], two[after])
+            edits += self._nodes.child(new, one[before], two[after])
         for (old_from, new_from), (old_to, new_to) in zip([(-1, -1), *pairs], [*pairs, (len(one), len(two))]):
             goes, comes = one[old_from + 1 : old_to], two[new_from + 1 : new_to]
             for it, other in zip(goes, comes):

@@ -10,7 +10,7 @@ from ....terms import LIST, Term, string
 from .edits import COMPREHENSIONS, DISPLAYS, NONE, PASS, Cannot, Edit, aligned, field_of, is_same, span
 from .fresh import Fresh
 from .tokens import BRACKETS
-from .trees import Place, Trees
+from .trees import Trees
 
 # The text of an item, from the nodes that it is made of.
 Texts = Callable[[Tuple[Term, ...]], str]
@@ -69,9 +69,9 @@ def flat_parameters(term: Term) -> list[tuple[str, Term, Union[Term, None]]]:
 class Children(Protocol):
     """The edits where a node comes in the place of another, and those of the fields of one."""
 
-    def child(self, place: Place, old: Term, new: Term) -> list[Edit]: ...
+    def child(self, owner: Term, old: Term, new: Term) -> list[Edit]: ...
 
-    def fields(self, place: Place, old: Term, new: Term) -> list[Edit]: ...
+    def fields(self, old: Term, new: Term) -> list[Edit]: ...
 
 
 class Commas:
@@ -116,14 +116,14 @@ class Commas:
 
     def items(
         self,
-        place: Place,
+        owner: Term,
         inside: tuple[int, int],
         old: Sequence[Item],
         new: Sequence[tuple[Term, ...]],
         text: Texts | None = None,
         trailing: bool = True,
     ) -> list[Edit]:
-        """The edits for a list with commas. `inside` are the places between its brackets."""
+        """The edits for a list with commas in this new node. `inside` are the places between its brackets."""
         if any(one.last > two.first for one, two in zip(old, old[1:])):
             raise Cannot
         text = text or self._alone(inside)
@@ -132,8 +132,14 @@ class Commas:
         for other, at in enumerate(kept):
             if at is not None and [it.head == "None" for it in new[other]] != [it.head == "None" for it in old[at].parts]:
                 kept[other] = None
+        # at one place, what comes before an element stands first, and what comes after it last
+        front: list[Edit] = []
         edits: list[Edit] = []
         pairs = aligned(kept)
+        for one, two in pairs:
+            for before, after in zip(old[one].parts, new[two]):
+                if not is_same(before, after):
+                    edits += self.nodes.child(owner, before, after)
         # what stands for nothing yet takes the place of what goes, in order
         for (old_from, new_from), (old_to, new_to) in zip([(-1, -1), *pairs], [*pairs, (len(old), len(new))]):
             goes = list(range(old_from + 1, old_to))
@@ -148,18 +154,14 @@ class Commas:
                 if last >= 0:
                     edits.append(Edit(old[last].last, old[last].last, b"".join(b", " + it for it in texts)))
                 elif old:
-                    edits.append(Edit(old[0].first, old[0].first, b"".join(it + b", " for it in texts)))
+                    front.append(Edit(old[0].first, old[0].first, b"".join(it + b", " for it in texts)))
                 else:
                     edits.append(Edit(inside[0], inside[0], b", ".join(texts)))
-        for one, two in pairs:
-            for before, after in zip(old[one].parts, new[two]):
-                if not is_same(before, after):
-                    edits += self.nodes.child(Place(place.old, place.new), before, after)
-        return edits
+        return front + edits
 
     # The text of an item of one node.
     def _alone(self, inside: tuple[int, int]) -> Texts:
-        return lambda parts: self._fresh.text(parts[0], self._trees.frame(inside[0]), self._trees.tokens.in_brackets(inside[0]))
+        return lambda parts: self._fresh.text(parts[0], self._trees.frame(inside[0]))
 
     # The edits that take the items from one to another away.
     def _without(self, inside: tuple[int, int], old: Sequence[Item], first: int, last: int, more: bool, trailing: bool) -> list[Edit]:
@@ -192,17 +194,17 @@ class Commas:
             comma = [Edit(elements[0].last, elements[0].last, b",")]
         else:
             comma = []
-        items = self.items(Place(old, new), inside, elements, [(it,) for it in after])
+        items = self.items(new, inside, elements, [(it,) for it in after])
         return [Edit(first, inside[0], opens), *items, *comma, Edit(inside[1], last, closes)]
 
     # The same of comprehensions.
     def _comprehension(self, old: Term, new: Term) -> list[Edit]:
         first, last = span(old)
         opens, closes = COMPREHENSIONS[str(new.head)]
-        edits = self.nodes.fields(Place(old, new), old, Term(old.head, new.children))
+        edits = self.nodes.fields(old, Term(old.head, new.children))
         return [Edit(first, first + 1, opens), *edits, Edit(last - 1, last, closes)]
 
-    def call(self, place: Place, old: Term, new: Term) -> list[Edit] | None:
+    def call(self, old: Term, new: Term) -> list[Edit] | None:
         """The arguments of a call, where they are others than before in number or kind."""
         function, arguments, keywords = old.children
         if len(new.children) != 3 or new.children[1].head != LIST or new.children[2].head != LIST:
@@ -216,11 +218,11 @@ class Commas:
         before = [*arguments.children, *keywords.children]
         if any(it.head == "GeneratorExp" and span(it)[1] == last for it in before):
             raise Cannot
-        edits = self.nodes.child(place.at(0), function, new.children[0]) if function is not new.children[0] else []
+        edits = self.nodes.child(new, function, new.children[0]) if function is not new.children[0] else []
         after = [(it,) for it in (*new.children[1].children, *new.children[2].children)]
-        return edits + self.items(place, inside, [self.item(inside, it) for it in before], after)
+        return edits + self.items(new, inside, [self.item(inside, it) for it in before], after)
 
-    def bases(self, place: Place, old: Term, new: Term) -> list[Edit]:
+    def bases(self, old: Term, new: Term) -> list[Edit]:
         """The bases and the keywords of a class."""
         before = [*field_of(old, "bases").children, *field_of(old, "keywords").children]
         after = [*field_of(new, "bases").children, *field_of(new, "keywords").children]
@@ -231,7 +233,7 @@ class Commas:
         at = self._trees.tokens.after(span(old)[0]) + 2
         if self._trees.tokens.text_at(at) != "(":
             name = self._trees.tokens.tokens[at - 1]
-            texts = [self._fresh.text(it, self._trees.frame(name.first), True).encode() for it in after]
+            texts = [self._fresh.text(it, self._trees.frame(name.first)).encode() for it in after]
             return [Edit(name.last, name.last, b"(" + b", ".join(texts) + b")")]
         depth, end = 1, at
         while depth:
@@ -239,9 +241,9 @@ class Commas:
             depth += BRACKETS.get(self._trees.tokens.text_at(end), 0)
         inside = (self._trees.tokens.tokens[at].last, self._trees.tokens.tokens[end].first)
         elements = [self.item(inside, it) for it in before]
-        return self.items(place, inside, elements, [(it,) for it in after])
+        return self.items(new, inside, elements, [(it,) for it in after])
 
-    def dictionary(self, place: Place, old: Term, new: Term) -> list[Edit]:
+    def dictionary(self, old: Term, new: Term) -> list[Edit]:
         """The entries of a dictionary, where they are more or fewer than before."""
         first, last = span(old)
         inside = (first + 1, last - 1)
@@ -254,17 +256,17 @@ class Commas:
         def text(parts: tuple[Term, ...]) -> str:
             return self._between(Term("Dict", (Term(LIST, parts[:1]), Term(LIST, parts[1:]))), self._trees.frame(first), "{", "}")
 
-        return self.items(place, inside, before, after, text)
+        return self.items(new, inside, before, after, text)
 
     # The text of a node that is made anew, of which only what is between two brackets is wanted.
     def _between(self, term: Term, indent: bytes, opens: str, closes: str) -> str:
         text = self._fresh.made(term, indent)
         return text[text.index(opens) + 1 : text.rindex(closes)]
 
-    def parameters(self, place: Place, old: Term, one: Term, two: Term) -> list[Edit]:
+    def parameters(self, old: Term, one: Term, two: Term) -> list[Edit]:
         """The parameters of a function."""
         if same_shape(one, two):
-            return self.nodes.fields(place, one, two)
+            return self.nodes.fields(one, two)
         tokens = self._trees.tokens
         at = tokens.after(span(old)[0])
         if old.head == "Lambda":
@@ -301,15 +303,15 @@ class Commas:
 
         def text(parts: tuple[Term, ...]) -> str:
             equals = " = " if parts[0].children[1].head != "None" else "="
-            default = equals + self._fresh.text(parts[1], indent, True) if len(parts) > 1 else ""
-            return marks.get(id(parts[0]), "") + self._fresh.text(parts[0], indent, True) + default
+            default = equals + self._fresh.text(parts[1], indent) if len(parts) > 1 else ""
+            return marks.get(id(parts[0]), "") + self._fresh.text(parts[0], indent) + default
 
         # a parameter that changes its kind is no longer itself
         for parts, (sign, name, _) in zip(news, after):
             origin = self._trees.origin(name)
             if origin is not None and marks.get(id(origin)) != sign:
                 return [Edit(*inside, self._parameter_list(False, two, indent))]
-        return self.items(place, inside, elements, news, text)
+        return self.items(two, inside, elements, news, text)
 
     def _parameter_list(self, is_lambda: bool, new: Term, indent: bytes) -> bytes:
         if is_lambda:

@@ -128,12 +128,7 @@ def is_same(one: Term, two: Term) -> bool:
     return one is two or (not one.children and not one.annotations and one == two)
 
 
-# The operands of an operation, with their paths, in the old tree and in the new one.
-def operands(old: Term, new: Term) -> list[tuple[tuple[int, ...], Term, Term]]:
-    found: list[tuple[tuple[int, ...], Term, Term]] = []
-    for at, (one, two) in enumerate(zip(old.children, new.children)):
-        if one.head == LIST and two.head == LIST:
-            found += [((at, place), it, other) for place, (it, other) in enumerate(zip(one.children, two.children))]
-        else:
-            found.append(((at,), one, two))
-    return [it for it in found if it[1].head in EXPRESSIONS]
+def operands(old: Term) -> list[Term]:
+    """Returns the operands of an operation."""
+    at = OPERATIONS[str(old.head)]
+    return [it for place, child in enumerate(old.children) if place != at for it in (child.children if child.head == LIST else (child,))]

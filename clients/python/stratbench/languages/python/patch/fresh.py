@@ -10,7 +10,7 @@ from typing import Protocol
 from ..source import CONSTRUCTORS, parse, unparse
 from ....terms import LIST, NoTerm, Term, string
 from .edits import BLOCKS, COMPREHENSIONS, DISPLAYS, LOAD, STATEMENTS, Cannot, Edit, parts_of, span
-from .markers import STRINGS, Piece, closed, filled, lean, marker_of, unparsed
+from .markers import STRINGS, Piece, filled, marker_of, unparsed
 from .trees import Trees
 
 
@@ -42,10 +42,10 @@ class Fresh:
     def __init__(self, trees: Trees) -> None:
         self._trees = trees
 
-    def text(self, term: Term, indent: bytes, inside: bool = False) -> str:
-        """The text of a node, its own where it is an old one, in a statement of an indentation. Between brackets it may go over lines."""
+    def text(self, term: Term, indent: bytes) -> str:
+        """The text of a node, its own where it is an old one, in a statement of an indentation, with the brackets that it may need."""
         known = self._piece_text(term, indent)
-        return self.made(term, indent, inside=inside) if known is None else closed(known, str(term.head), inside)
+        return self._trees.brackets.of(term, self.made(term, indent) if known is None else known)
 
     def _piece_text(self, term: Term, indent: bytes) -> str | None:
         origin = None if self._trees.plain else self._trees.origin(term)
@@ -61,20 +61,20 @@ class Fresh:
             return f"({text})"
         return text
 
-    def made(self, term: Term, indent: bytes, old: Term | None = None, inside: bool = False) -> str:
+    def made(self, term: Term, indent: bytes, old: Term | None = None) -> str:
         """The text of a node that is made anew, with the texts of old ones in it."""
         if term.head in STATEMENTS:
             return self.statement(term, b"").decode()
         if old is not None:
             known = self._piece_text(term, indent) if self._trees.origin(term) is not old else None
             if known is not None:
-                return closed(known, str(term.head), inside)
+                return known
         display = None if self._trees.plain else self._display_text(term, indent)
         if display is not None:
             return display
         pieces: list[Piece] = []
         made = self._with_pieces(term, pieces, indent, root=True)
-        text = filled(self.fitting(lean(unparsed(made), made)), pieces, inside)
+        text = filled(self._trees.brackets.loosened(self.fitting(unparsed(made))), pieces)
         if term.head in ("JoinedStr", "Constant") and old is not None:
             return self._requoted(text, old)
         return text
@@ -127,7 +127,7 @@ class Fresh:
                 text = self._display_text(term, indent)
             if text is not None:
                 shown, marker = marker_of(term, len(pieces))
-                pieces.append(Piece(shown, text, str(term.head)))
+                pieces.append(Piece(shown, self._trees.brackets.of(term, text), term.head == "Constant" and text[0].isdigit()))
                 return marker
         if not term.children or term.head == "JoinedStr":
             return term
@@ -140,13 +140,16 @@ class Fresh:
         pieces: list[Piece] = []
         blocks: list[Term] = []
         stub = self._stub(term, pieces, blocks, indent)
+        brackets = self._trees.brackets
         if term.head == "Expr" and term.children[0].head == "Constant":
             text = unparse(Term("Module", (Term(LIST, (stub,)), Term(LIST))))
         else:
-            text = lean(unparsed(stub), stub)
+            text = brackets.loosened(unparsed(stub))
         text = self.fitting(text).strip("\n")
+        needed = brackets.needed(filled(text, pieces))
         if not blocks:
-            return filled(self._trees.indented(text.encode(), b"", indent).decode(), pieces).encode()
+            text = filled(self._trees.indented(text.encode(), b"", indent).decode(), pieces)
+            return brackets.written(text, needed).encode()
         lines: list[bytes] = []
         for line in text.split("\n"):
             found = re.fullmatch(r"( *)_block_(\d+)_", line)
@@ -155,7 +158,7 @@ class Fresh:
                 lines.append(level + self.blocks.rendered(blocks[int(found.group(2))].children, level))
             else:
                 level = indent + self._trees.tokens.unit * ((len(line) - len(line.lstrip(" "))) // 4)
-                lines.append(level + filled(line.lstrip(" "), pieces).encode())
+                lines.append(level + brackets.written(filled(line.lstrip(" "), pieces), needed).encode())
         return self._trees.newline.join(lines)[len(indent) :]
 
     # A statement with markers in the places of its blocks and of the nodes whose text is known.

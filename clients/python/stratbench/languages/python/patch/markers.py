@@ -1,17 +1,17 @@
-"""Markers: nodes that stand for others while the text around is made."""
+"""New text while it is made: markers stand for nodes whose text is known, and marks for brackets that may be needed."""
 
 from __future__ import annotations
 
 import ast
 import re
-from collections.abc import Sequence
-from itertools import accumulate
+from collections.abc import Sequence, Set
+from itertools import count
 from typing import Final, NamedTuple
 
-from ..source import parse, to_term, unparse
+from ....patch.fewest import fewest
 from ....terms import LIST, Term, string
-from .edits import EXPRESSIONS, LOAD, NONE, PASS, PATTERNS, STATEMENTS, Cannot, same_tree
-from .tokens import BRACKETS
+from ..source import parse, unparse
+from .edits import EXPRESSIONS, LOAD, NONE, OPEN, PATTERNS, Cannot, Edit
 
 # The most brackets of a new text that are tried to be left out.
 MOST_PAIRS: Final = 8
@@ -19,11 +19,12 @@ STRINGS: Final = re.compile(r"""('''|\"\"\"|'|")(?:\\.|(?!\1).)*\1""", re.DOTALL
 
 
 class Piece(NamedTuple):
-    """A node of the new tree whose text is known: it stands for it while the text around is made."""
+    """The text of the marker that stands for a node while the text around is made, and the node's own, with the brackets that it may need. Before
+    a dot a number has some."""
 
     shown: str
     text: str
-    head: str
+    is_number: bool
 
 
 def unparsed(term: Term) -> str:
@@ -31,19 +32,6 @@ def unparsed(term: Term) -> str:
     if term.head in ("NamedExpr", "Yield", "YieldFrom") and text.startswith("("):
         return text[1:-1]
     return text
-
-
-# The text of a node that is made anew, without the brackets around operations that the parse does without. Of many none are tried.
-def lean(text: str, term: Term) -> str:
-    pairs = _pairs(text)
-    if len(pairs) > MOST_PAIRS or (term.head not in EXPRESSIONS and term.head not in STATEMENTS):
-        return text
-    signs = list(text)
-    for first, last in reversed(pairs):
-        without = [*signs[:first], " ", *signs[first + 1 : last], " ", *signs[last + 1 :]]
-        if _is_operation(text[first + 1 : last]) and _spells("".join(without), term):
-            signs[first] = signs[last] = ""
-    return "".join(signs)
 
 
 # The brackets of a text that aren't those of calls.
@@ -72,138 +60,111 @@ def name_of(text: str) -> Term:
     return Term("Name", (string(text), LOAD))
 
 
-# A node of the same constructor, which `ast.unparse` puts into brackets wherever it would the node itself, and its text.
+# A node in whose place the text of another comes, and its own text. For what goes on as far as it can it is one of the same constructor, which
+# `ast.unparse` puts into brackets wherever it would the node itself.
 def marker_of(term: Term, number: int) -> tuple[str, Term]:
-    left, middle, right = (f"_{letter}{number}_" for letter in "lmr")
-    head, children = term.head, term.children
-    one, two = name_of(left), name_of(right)
-    if head == "BinOp":
-        marker = Term(head, (one, children[1], two))
-    elif head == "BoolOp":
-        marker = Term(head, (children[0], Term(LIST, (one, two))))
-    elif head == "UnaryOp":
-        marker = Term(head, (children[0], two))
-    elif head == "Compare":
-        marker = Term(head, (one, Term(LIST, (Term("Lt"),)), Term(LIST, (two,))))
-    elif head == "Lambda":
+    name, head = string(f"_p{number}_"), term.head
+    one = Term("Name", (name, LOAD))
+    if head in OPEN:
         empty = Term(LIST)
-        marker = Term(head, (Term("arguments", (empty, empty, NONE, empty, empty, NONE, empty)), two))
-    elif head == "IfExp":
-        marker = Term(head, (name_of(middle), one, two))
-    elif head == "NamedExpr":
-        marker = Term(head, (one, two))
-    elif head in ("Await", "Yield", "YieldFrom"):
-        marker = Term(head, (two,))
-    elif head == "Starred":
-        marker = Term(head, (two, LOAD))
-    elif head == "Tuple":
-        marker = Term(head, (Term(LIST, (one, two)), LOAD))
-    elif head == "GeneratorExp":
-        source = Term("comprehension", (name_of(middle), two, Term(LIST), Term(0)))
-        marker = Term(head, (one, Term(LIST, (source,))))
+        parameters = Term("arguments", (empty, empty, NONE, empty, empty, NONE, empty))
+        parts = {"Lambda": (parameters, one), "IfExp": (one, one, one), "NamedExpr": (one, one)}
+        marker = Term(head, parts.get(str(head), (one,)))
     elif head == "keyword":
-        marker = Term(head, (string(left), two))
-    elif head == "arg":
-        marker = Term(head, (string(left), NONE, NONE))
-    elif head == "alias":
-        marker = Term(head, (string(left), NONE))
-    elif head == "MatchOr":
-        marker = Term(head, (Term(LIST, tuple(Term("MatchAs", (NONE, string(it))) for it in (left, right))),))
-    elif head == "MatchAs" and children and children[0].head != "None":
-        marker = Term(head, (Term("MatchAs", (NONE, string(left))), string(right)))
+        marker = Term(head, (NONE, one))
+    elif head in ("arg", "alias"):
+        marker = Term(head, (name, NONE, NONE)[: len(term.children)])
     elif head == "MatchStar":
-        marker = Term(head, (string(left),))
+        marker = Term(head, (name,))
     elif head in PATTERNS:
-        marker = Term("MatchAs", (NONE, string(left)))
+        marker = Term("MatchAs", (NONE, name))
     elif head in EXPRESSIONS:
         marker = one
     else:
         raise Cannot
-    shown = unparsed(marker)
-    return (shown[1:-1] if head == "Tuple" else shown), marker
+    return unparsed(marker), marker
 
 
-# The text with those of the pieces in the places of their markers.
-def filled(text: str, pieces: Sequence[Piece], inside: bool = False) -> str:
-    depths = [0, *accumulate(BRACKETS.get(it, 0) for it in STRINGS.sub(lambda it: "_" * len(it.group()), text))]
-    places = sorted((at, piece) for piece in pieces if (at := text.find(piece.shown)) >= 0)
-    out: list[str] = []
-    end = 0
-    for first, piece in places:
-        last = first + len(piece.shown)
-        own = closed(piece.text, piece.head, inside or depths[first] > 0)
-        around = text[first - 1 : first] == "(" and text[last : last + 1] == ")"
-        if around and (piece.head == "Tuple" or (piece.head == "GeneratorExp" and re.match(r"[\w)\]]", text[first - 2 : first - 1]))):
-            first, last = first - 1, last + 1
-        if piece.head == "Constant" and text[last : last + 1] == "." and own[0].isdigit():
-            own = f"({own})"
-        out += [text[end:first], own]
-        end = last
-    return "".join([*out, text[end:]])
+class Brackets:
+    """Pairs of brackets that may be needed around nodes, as marks in new text: a sign, a bracket, and the number of the pair. Those that are
+    needed are found by parsing the text without them."""
+
+    def __init__(self, sign: str) -> None:
+        self._sign, self._numbers = sign, count()
+        self._mark = re.compile(rf"{sign}([()])(\d+){sign}")
+
+    def around(self, text: str) -> str:
+        """The text with a pair around it."""
+        number = next(self._numbers)
+        return f"{self._sign}({number}{self._sign}{text}{self._sign}){number}{self._sign}"
+
+    def of(self, term: Term, text: str) -> str:
+        """The text of a node with a pair around it, if the node may have brackets. Those of a generator are a pair themselves."""
+        if term.head == "GeneratorExp":
+            return self.around(text[1:-1])
+        return self.around(text) if may_have_brackets(term) else text
+
+    def around_edits(self, first: int, last: int, edits: Sequence[Edit]) -> list[Edit]:
+        """Edits within an old node, or in its place, with a pair around it."""
+        if len(edits) == 1 and (edits[0].first, edits[0].last) == (first, last):
+            return [Edit(first, last, self.around(edits[0].text.decode()).encode())]
+        opens, closes = self.around("\0").encode().split(b"\0")
+        return [Edit(first, first, opens), *edits, Edit(last, last, closes)]
+
+    def instead(self, edits: Sequence[Edit]) -> list[Edit]:
+        """Edits with a pair in the place of the brackets in which the new text is."""
+        opens, closes = self.around("\0").encode().split(b"\0")
+        begun = [edits[0]._replace(text=opens + edits[0].text[1:]), *edits[1:]]
+        return [*begun[:-1], begun[-1]._replace(text=begun[-1].text[:-1] + closes)]
+
+    def are_in(self, text: bytes) -> bool:
+        return self._sign.encode() in text and self._mark.search(text.decode()) is not None
+
+    def needed(self, text: str) -> set[int]:
+        """The pairs that a text of statements needs, so that its tree is the one that it has with all."""
+        numbers = {int(it) for _, it in self._mark.findall(text)}
+        wanted = self._tree(text, numbers) if numbers else None
+        if wanted is None or self._tree(text, set()) == wanted:
+            return set()
+        return fewest(numbers, lambda some: self._tree(text, some) == wanted)
+
+    def written(self, text: str, some: Set[int]) -> str:
+        """The text with these pairs, and without the others."""
+        return self._mark.sub(lambda it: it[1] if int(it[2]) in some else "", text)
+
+    def _tree(self, text: str, some: Set[int]) -> str | None:
+        try:
+            return ast.dump(parse(self.written(text, some)))
+        except SyntaxError:
+            return None
+
+    def without(self, text: str) -> str:
+        return self.written(text, set())
+
+    def loosened(self, text: str) -> str:
+        """A text that is made anew with pairs in the place of brackets around operations. Of many none are."""
+        pairs = _pairs(text)
+        if len(pairs) > MOST_PAIRS:
+            return text
+        signs = list(text)
+        for first, last in reversed(pairs):
+            if _is_operation(text[first + 1 : last]):
+                signs[first], signs[last] = self.around("\0").split("\0")
+        return "".join(signs)
 
 
-# The text of a node, in brackets where it goes over lines and isn't inside brackets.
-def closed(text: str, head: str, inside: bool) -> str:
-    if inside or ("\n" not in text and "\r" not in text) or head not in EXPRESSIONS or head in ("Starred", "Slice"):
-        return text
-    try:
-        parse(text)
-    except SyntaxError:
-        return f"({text})"
-    return text
+def filled(text: str, pieces: Sequence[Piece]) -> str:
+    """The text with those of the pieces in the places of their markers."""
+    found = {it.shown: it for it in pieces}
+
+    def own(it: re.Match[str]) -> str:
+        piece = found[it[0]]
+        return f"({piece.text})" if piece.is_number and it.string[it.end() : it.end() + 1] == "." else piece.text
+
+    return re.sub("|".join(re.escape(it) for it in found), own, text) if found else text
 
 
-# The owner with a node at the path, and with plain names for what else is in it.
-def hollow(owner: Term, path: Sequence[int], node: Term) -> Term:
-    if not path:
-        return node
-    children = [hollow(it, path[1:], node) if at == path[0] else plain(it) for at, it in enumerate(owner.children)]
-    return Term(owner.head, tuple(children))
-
-
-def plain(term: Term) -> Term:
-    if term.head == LIST and term.children and term.children[0].head in STATEMENTS:
-        return Term(LIST, (PASS,))
-    if term.head in EXPRESSIONS:
-        return name_of("_x_")
-    if term.head in PATTERNS:
-        return Term("MatchAs", (NONE, string("_x_")))
-    if not term.children:
-        return term
-    return Term(term.head, tuple([plain(it) for it in term.children]))
-
-
-# The owner with few others in the list that the path leads through: more say nothing of brackets.
-def windowed(owner: Term, path: Sequence[int]) -> tuple[Term, tuple[int, ...]]:
-    field, *rest = path
-    if owner.head not in EXPRESSIONS or owner.children[field].head != LIST or not rest:
-        return owner, tuple(path)
-    first = max(rest[0] - 1, 0)
-    children = list(owner.children)
-    for it in {"Dict": (0, 1), "Compare": (1, 2)}.get(str(owner.head), (field,)):
-        children[it] = Term(LIST, children[it].children[first : first + 3])
-    if owner.head == "Call":
-        children[3 - field] = Term(LIST, children[3 - field].children[:1])
-    return Term(owner.head, tuple(children)), (field, rest[0] - first, *rest[1:])
-
-
-# How many pairs of brackets are around a text in that of a node. One that the parse does without doesn't count, but for what goes on as
-# far as it can.
-def brackets(term: Term, shown: str, goes_on: bool = False) -> int:
-    text = unparse(term)
-    first = text.find(shown)
-    last, count = first + len(shown), 0
-    while first > 0 and text[first - 1] == "(" and text[last : last + 1] == ")":
-        first, last, count = first - 1, last + 1, count + 1
-    if count and not (goes_on and term.head in EXPRESSIONS) and _spells(text[:first] + text[first + 1 : last - 1] + text[last:], term):
-        count -= 1
-    return count
-
-
-# Whether a text spells a statement or an expression.
-def _spells(text: str, term: Term) -> bool:
-    try:
-        [found] = to_term(parse(text.strip())).children[0].children
-    except (SyntaxError, ValueError):
+def may_have_brackets(term: Term) -> bool:
+    if term.head == "Tuple" and any(it.head == "Slice" for it in term.children[0].children):
         return False
-    return same_tree(found if term.head in STATEMENTS else found.children[0], term)
+    return term.head in EXPRESSIONS and term.head not in ("Starred", "Slice") or term.head in PATTERNS and term.head != "MatchStar"

@@ -3,20 +3,22 @@
 from __future__ import annotations
 
 import tokenize
-from keyword import iskeyword
-from typing import Protocol
+from typing import Final, Protocol
 
 from ..source import CONSTRUCTORS, position
-from ....terms import LIST, Term, string
+from ....terms import LIST, Term
 from .commas import Commas, same_shape
 from .edits import (
-    BLOCKS, COMMAS, COMPREHENSIONS, DEFINITIONS, DISPLAYS, EXPRESSIONS, LOAD, NONE, OPEN, OPERATIONS, OPERATORS, PATTERNS, Cannot, Edit, field_of,
-    is_same, operands, span,
+    BLOCKS, COMMAS, COMPREHENSIONS, DEFINITIONS, DISPLAYS, OPERATIONS, OPERATORS, Cannot, Edit, apply_edits, field_of, is_same, operands, span,
 )  # fmt: skip
 from .fresh import Fresh
 from .fstrings import Joined
-from .markers import brackets, hollow, marker_of, windowed
-from .trees import Place, Trees
+from .markers import may_have_brackets
+from .trees import Trees
+
+
+# What is around the head of a statement, a handler or a case where it is parsed alone.
+_AROUND: Final = {"Match": ("", "\n case _: pass"), "ExceptHandler": ("try: pass\n", " pass"), "match_case": ("match _:\n ", " pass")}
 
 
 class Parts(Protocol):
@@ -37,7 +39,22 @@ class Nodes:
     def __init__(self, trees: Trees, fresh: Fresh, commas: Commas, joined: Joined) -> None:
         self._trees, self._fresh, self._commas, self._joined = trees, fresh, commas, joined
 
-    def node(self, old: Term, new: Term, inside: bool = False) -> list[Edit]:
+    def settled(self, old: Term, new: Term) -> list[Edit]:
+        """The edits within a statement, a handler or a case, with the brackets that its head needs."""
+        edits = self.inside(old, new)
+        brackets = self._trees.brackets
+        if not any(brackets.are_in(it.text) for it in edits):
+            return edits
+        first, last = self._trees.head(old)
+        text = apply_edits(self._trees.text, first, last, [it for it in edits if first <= it.first and it.last <= last]).decode()
+        before, after = _AROUND.get(str(old.head), ("", " pass" if old.head in BLOCKS else ""))
+        if old.head in DEFINITIONS and self._trees.indent(first):
+            before = f"if 1:\n{self._trees.indent(first).decode()}"
+        needed = brackets.needed(before + (text[2:] if text.startswith("elif") else text) + after)
+        edits = [it._replace(text=brackets.written(it.text.decode(), needed).encode()) for it in edits]
+        return [it for it in edits if it.first < it.last or it.text]
+
+    def node(self, old: Term, new: Term) -> list[Edit]:
         """The edits that make the old node the new one, which stands in its place."""
         if old is new:
             return []
@@ -50,28 +67,21 @@ class Nodes:
                 found = self._trees.tried(lambda: self._commas.display(old, new))
             if found is not None:
                 return found
-        inside = inside or self._trees.tokens.in_brackets(first)
-        return [Edit(first, last, self._fresh.made(new, self._trees.frame(first), old, inside).encode())]
+        return [Edit(first, last, self._fresh.made(new, self._trees.frame(first), old).encode())]
 
     def inside(self, old: Term, new: Term) -> list[Edit]:
         """The edits within a node whose constructor stays."""
         if old.head == "JoinedStr":
             return self._joined.edits(old, new)
-        edits = self.fields(Place(old, new), old, new)
+        edits = self.fields(old, new)
         at = OPERATIONS.get(str(old.head))
         if at is not None and old.children[at] is not new.children[at]:
-            edits = self._rebracketed(old, new, edits)
+            # an operator that changes may bind its operands otherwise, so these may need brackets now
+            for it in operands(old):
+                edits += self._trees.brackets.around_edits(*span(it), [])
         return edits
 
-    # An operator that changes may bind its operands otherwise, so these may need brackets now.
-    def _rebracketed(self, old: Term, new: Term, edits: list[Edit]) -> list[Edit]:
-        for path, one, two in operands(old, new):
-            found = position(one)
-            if one is two and found and self._needs_brackets(Place(old, new, path), two, one):
-                edits = [*edits, Edit(found[0], found[0], b"("), Edit(found[1], found[1], b")")]
-        return edits
-
-    def fields(self, place: Place, old: Term, new: Term) -> list[Edit]:
+    def fields(self, old: Term, new: Term) -> list[Edit]:
         """The edits of the fields of a node whose constructor stays."""
         head = str(old.head)
         fields = CONSTRUCTORS[head].fields
@@ -79,23 +89,23 @@ class Nodes:
             raise Cannot
         edits: list[Edit] = []
         if head == "Call":
-            joint = self._commas.call(place, old, new)
+            joint = self._commas.call(old, new)
             if joint is not None:
                 return joint
         if head == "ClassDef":
-            edits += self._commas.bases(place, old, new)
+            edits += self._commas.bases(old, new)
         if head == "Dict" and len(old.children[0].children) != len(new.children[0].children):
-            return self._commas.dictionary(place, old, new)
+            return self._commas.dictionary(old, new)
         if head == "arguments" and not same_shape(old, new):
             raise Cannot
         for at, field in enumerate(fields):
             one, two = old.children[at], new.children[at]
             if is_same(one, two) or field.sort == "expr_context" or (head == "ClassDef" and field.name in ("bases", "keywords")):
                 continue
-            edits += self._field(place.at(at), old, new, field.name, one, two)
+            edits += self._field(old, new, field.name, one, two)
         return edits
 
-    def _field(self, place: Place, old: Term, new: Term, name: str, one: Term, two: Term) -> list[Edit]:
+    def _field(self, old: Term, new: Term, name: str, one: Term, two: Term) -> list[Edit]:
         head = str(old.head)
         if head in BLOCKS and name in ("body", "orelse", "finalbody"):
             return self.clauses.clause(old, new, name)
@@ -104,94 +114,45 @@ class Nodes:
         if name == "decorator_list":
             return self.clauses.decorators(old, new)
         if (head, name) in (("FunctionDef", "args"), ("AsyncFunctionDef", "args"), ("Lambda", "args")):
-            return self._commas.parameters(place, old, one, two)
+            return self._commas.parameters(old, one, two)
         if name == "returns" and head in DEFINITIONS:
-            return self._returns(place, old, one, two)
+            return self._returns(old, new, one, two)
         word = self._word(old, new, name, one, two)
         if word is not None:
             return word
         if one.head == LIST and two.head == LIST:
             if len(one.children) == len(two.children):
-                edits: list[Edit] = []
-                for at, (it, other) in enumerate(zip(one.children, two.children)):
-                    if not is_same(it, other):
-                        edits += self.child(place.at(at), it, other)
-                return edits
+                return [edit for it, other in zip(one.children, two.children) if not is_same(it, other) for edit in self.child(new, it, other)]
             least = COMMAS.get((head, name))
             if least is None or len(two.children) < least or not one.children:
                 if (head, name) != ("List", "elts"):
                     raise Cannot
             inside = self._trees.inside_of(old) if head in DISPLAYS else span(old)
             elements = [self._commas.item(inside, it) for it in one.children]
-            return self._commas.items(place, inside, elements, [(it,) for it in two.children], trailing=head != "Delete")
-        return self.child(place, one, two)
+            return self._commas.items(new, inside, elements, [(it,) for it in two.children], trailing=head != "Delete")
+        return self.child(new, one, two)
 
-    def child(self, place: Place, old: Term, new: Term) -> list[Edit]:
-        """The edits for a child that isn't a list."""
+    def child(self, owner: Term, old: Term, new: Term) -> list[Edit]:
+        """The edits for a child of a new node that isn't a list, with the brackets that it may need there."""
         if position(old) is None:
             if old.head == new.head and old.head in ("arguments", "comprehension", "withitem"):
-                return self.fields(place, old, new)
+                return self.fields(old, new)
             raise Cannot
         if new.head not in CONSTRUCTORS or new.head == "None":
             raise Cannot
-        if new.head not in EXPRESSIONS and new.head not in PATTERNS:
-            return self.node(old, new)
         first, last = span(old)
-        of_call = self._has_calls_brackets(place, old)
-        needed = new.head != "GeneratorExp" if of_call else self._needs_brackets(place, new, old)
-        edits = self.node(old, new, needed)
-        is_whole = len(edits) == 1 and (edits[0].first, edits[0].last) == (first, last)
-        if new.head == "GeneratorExp" and old.head != new.head and self._is_alone(place, old):
-            return _without_brackets(edits)
-        if new.head == "Tuple" and is_whole and edits[0].text.startswith(b"(") and not of_call:
-            return _without_brackets(edits) if self._is_grouped(first, last) else edits
-        if not needed:
-            return edits
-        if is_whole:
-            return [Edit(first, last, b"(" + edits[0].text + b")")]
-        if of_call or old.head in OPERATIONS:
-            return [Edit(first, first, b"("), *edits, Edit(last, last, b")")]
+        edits = self.node(old, new)
+        whole = len(edits) == 1 and (edits[0].first, edits[0].last) == (first, last)
+        brackets, there = self._trees.brackets, self._trees.tokens.are_around(first, last)
+        if whole or old.head != new.head:
+            if new.head == "GeneratorExp" or new.head == "Tuple" and there and edits[0].text[:1] == b"(":
+                return brackets.instead(edits)
+            is_number = owner.head == "Attribute" and new.head == "Constant" and not isinstance(new.children[0].head, bytes)
+            if not there and (is_number or new.head in ("NamedExpr", "Yield", "YieldFrom") and owner.head != "Expr" and old.head != new.head):
+                return [Edit(first, last, b"(" + edits[0].text + b")")]
+        if may_have_brackets(new) and (_binding(old) != _binding(new) or whole and b"\n" in edits[0].text):
+            return brackets.around_edits(first, last, edits)
         return edits
-
-    # Whether a node has brackets around it that are for it alone: not those of a call.
-    def _is_grouped(self, first: int, last: int) -> bool:
-        before, after = self._trees.tokens.before(first), self._trees.tokens.after(last)
-        if self._trees.tokens.text_at(before) != "(" or self._trees.tokens.text_at(after) != ")":
-            return False
-        above = self._trees.tokens.text_at(before - 1)
-        return iskeyword(above) or not (above.isidentifier() or above in (")", "]", "}") or above[-1:] in ("'", '"'))
-
-    # Whether a node is all that is between the brackets of a call, before and after.
-    def _is_alone(self, place: Place, old: Term) -> bool:
-        if place.new.head != "Call" or place.path[:1] != (1,) or len(place.new.children[1].children) + len(place.new.children[2].children) != 1:
-            return False
-        first, last = span(old)
-        before, after = self._trees.tokens.before(first), self._trees.tokens.after(last)
-        opens = self._trees.tokens.after(self._commas.around(span(place.old), place.old.children[0])[1])
-        return before == opens and self._trees.tokens.text_at(after) == ")"
-
-    # Whether the brackets of a generator are those of the call of which it is the only argument.
-    def _has_calls_brackets(self, place: Place, old: Term) -> bool:
-        return old.head == "GeneratorExp" and place.old.head == "Call" and span(place.old)[1] == span(old)[1]
-
-    # Whether a node needs brackets in its place, which the source doesn't have there. What binds as the old node did has those it needs.
-    def _needs_brackets(self, place: Place, new: Term, old: Term) -> bool:
-        if not place.path or (new.head not in EXPRESSIONS and new.head not in PATTERNS):
-            return False
-        first, last = span(old)
-        before, after, there = self._trees.tokens.before(first), self._trees.tokens.after(last), 0
-        while self._trees.tokens.text_at(before) == "(" and self._trees.tokens.text_at(after) == ")":
-            before, after, there = before - 1, after + 1, there + 1
-        if place.new.head == "Attribute" and new.head == "Constant" and not isinstance(new.children[0].head, bytes):
-            return not there
-        if _binding(old) == _binding(new) and _binding(place.old) == _binding(place.new):
-            return False
-        shown, marker = marker_of(new, 0)
-        atom = Term("Name", (string("_h_"), LOAD)) if new.head in EXPRESSIONS else Term("MatchAs", (NONE, string("_h_")))
-        owner, path = windowed(place.new, place.path)
-        wanted = brackets(hollow(owner, path, marker), shown, new.head in OPEN)
-        least = brackets(hollow(owner, path, atom), "_h_")
-        return wanted > least and there <= least
 
     # Names and operators, which are one token or a few.
     def _word(self, old: Term, new: Term, name: str, one: Term, two: Term) -> list[Edit] | None:
@@ -281,9 +242,9 @@ class Nodes:
             return [Edit(token.last, token.last, b": " + self._fresh.text(two, self._trees.frame(token.first)).encode())]
         if two.head == "None":
             return [Edit(token.last, self._commas.around((token.last, span(old)[1]), one)[1], b"")]
-        return self.child(Place(old, new, (1,)), one, two)
+        return self.child(new, one, two)
 
-    def _returns(self, place: Place, old: Term, one: Term, two: Term) -> list[Edit]:
+    def _returns(self, old: Term, new: Term, one: Term, two: Term) -> list[Edit]:
         colon = self._trees.colon(old)
         if one.head == "None":
             return [Edit(colon, colon, b" -> " + self._fresh.text(two, self._trees.frame(colon)).encode())]
@@ -293,17 +254,10 @@ class Nodes:
                 arrow -= 1
             end = self._trees.tokens.tokens[arrow - 1].last
             return [Edit(end, colon, b"")]
-        return self.child(place, one, two)
+        return self.child(new, one, two)
 
 
 # What says how strongly a node binds: its constructor, and its operator.
 def _binding(term: Term) -> tuple[object, object]:
     at = OPERATIONS.get(str(term.head))
     return term.head, None if at is None else term.children[at].head
-
-
-# The edits of what is in brackets without these.
-def _without_brackets(edits: list[Edit]) -> list[Edit]:
-    if len(edits) == 1:
-        return [edits[0]._replace(text=edits[0].text[1:-1])]
-    return [edits[0]._replace(text=edits[0].text[1:]), *edits[1:-1], edits[-1]._replace(text=edits[-1].text[:-1])]

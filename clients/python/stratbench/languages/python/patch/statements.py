@@ -45,7 +45,7 @@ class Statements:
         if old is new:
             return []
         if old.head == new.head and not self._trees.plain:
-            found = self._trees.tried(lambda: self._nodes.inside(old, new))
+            found = self._trees.tried(lambda: self._nodes.settled(old, new))
             if found is not None:
                 return found
         return [Edit(self._trees.begin(old), self._moved.end_with_comments(old), self._fresh.statement(new, indent))]

@@ -5,8 +5,6 @@ from __future__ import annotations
 import re
 import tokenize
 from bisect import bisect_left, bisect_right
-from functools import cached_property
-from itertools import accumulate
 from typing import Final, NamedTuple
 
 from ....patch.edits import Lines
@@ -73,13 +71,9 @@ class Tokens:
         """Where the line of the grammar begins that a place is in."""
         return self.line_firsts[bisect_right(self.line_firsts, place) - 1]
 
-    def in_brackets(self, place: int) -> bool:
-        """Whether a place is between brackets, so that a line may end there."""
-        return self._depths[self.after(place)] > 0
-
-    @cached_property
-    def _depths(self) -> list[int]:
-        return [0, *accumulate(BRACKETS.get(it.text, 0) for it in self.tokens)]
+    def are_around(self, first: int, last: int) -> bool:
+        """Whether round brackets are right before and after a text."""
+        return self.text_at(self.before(first)) == "(" and self.text_at(self.after(last)) == ")"
 
     def between(self, first: int, last: int) -> list[Token]:
         """The tokens from one place to the other."""

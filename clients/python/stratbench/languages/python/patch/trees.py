@@ -7,27 +7,16 @@ import tokenize
 from bisect import bisect_left, bisect_right
 from collections.abc import Sequence
 from functools import cached_property
-from typing import Callable, NamedTuple
+from typing import Callable
 
 from ..source import CONSTRUCTORS, Source
 from ....patch.origins import Origins
 from ....terms import Term
 from .comments import Marks
-from .edits import COMPREHENSIONS, DEFINITIONS, DISPLAYS, Cannot, Edit, apply_edits, field_of, normal, parts_of, span
+from .edits import BLOCKS, COMPREHENSIONS, DEFINITIONS, DISPLAYS, Cannot, Edit, apply_edits, field_of, normal, parts_of, span
 from .former import Former
+from .markers import Brackets
 from .tokens import BRACKETS, Token, Tokens, inner_lines
-
-
-class Place(NamedTuple):
-    """Where a node is: the node around it, before and after, and the path to it from there."""
-
-    old: Term
-    new: Term
-    path: tuple[int, ...] = ()
-
-    def at(self, *steps: int) -> Place:
-        """The place of a node inside."""
-        return self._replace(path=(*self.path, *steps))
 
 
 class Trees:
@@ -36,6 +25,7 @@ class Trees:
     def __init__(self, source: Source, new: Term, marks: Marks | None = None) -> None:
         self.source, self.text = source, source.text
         self.marks = marks or Marks(source.text)
+        self.brackets = Brackets(self.marks.sign.decode())
         self.old = source.term
         self._origins = Origins(self.old, CONSTRUCTORS)
         self.origin, self.homes = self._origins.of, self._origins.homes
@@ -96,7 +86,12 @@ class Trees:
     # Places in the lines of the source.
 
     def begin(self, statement: Term) -> int:
-        """Where a statement begins, with its decorators."""
+        """Where a statement begins, with its decorators; or a case, which has no position."""
+        if statement.head == "match_case":
+            at = self.tokens.before(span(field_of(statement, "pattern"))[0])
+            while self.tokens.tokens[at].text != "case":
+                at -= 1
+            return self.tokens.tokens[at].first
         first = span(statement)[0]
         if statement.head in DEFINITIONS and field_of(statement, "decorator_list").children:
             return self.at_sign(field_of(statement, "decorator_list").children[0])
@@ -147,6 +142,12 @@ class Trees:
     def frame(self, place: int) -> bytes:
         """The indentation of the statement that a place is in."""
         return self.indent(self.tokens.logical_line(place))
+
+    def head(self, statement: Term) -> tuple[int, int]:
+        """Where the head of a statement, of a handler or of a case is, or the whole statement where it has no blocks."""
+        if statement.head == "Match":
+            return span(statement)[0], self.tokens.tokens[self.tokens.after(self.begin(field_of(statement, "cases").children[0])) - 2].last
+        return self.begin(statement), self.colon(statement) + 1 if statement.head in BLOCKS else span(statement)[1]
 
     def colon(self, statement: Term) -> int:
         """The place of the colon that ends the head of a statement."""
@@ -223,7 +224,8 @@ class Trees:
         if old == new or (b"\n" not in text and b"\r" not in text):
             return text
         lines = re.split(rb"(?<=\n)|(?<=\r)(?!\n)", text)
-        inner = inner_lines(b"(" + text + b")", False) if is_expression else inner_lines(old + text, bool(old))
+        bare = self.brackets.without(text.decode()).encode()
+        inner = inner_lines(b"(" + bare + b")", False) if is_expression else inner_lines(old + bare, bool(old))
         out = [lines[0]]
         for at, line in enumerate(lines[1:], 1):
             if at not in inner and line.strip() and line.startswith(old):
