@@ -14,7 +14,7 @@ from typing import NamedTuple, Optional
 from ..languages.language import Kinds, Path
 from ..terms import LIST, Term, position
 from ..terms import at as subterm
-from .edits import aligned
+from .edits import aligned, gaps
 
 
 class Change(NamedTuple):
@@ -78,12 +78,10 @@ def _is_kept(old: Term, new: Term) -> bool:
 def _of_list(old: Term, new: Term, path: Path, kinds: Kinds) -> Iterator[Change]:
     places = {(it.head, position(it)): at for at, it in enumerate(old.children)}
     pairs = aligned([places.get((it.head, position(it))) if it.annotations else None for it in new.children])
-    ends = (len(old.children), len(new.children))
-    for (old_from, new_from), (old_to, new_to) in zip([(-1, -1), *pairs], [*pairs, ends]):
-        goes, comes = old.children[old_from + 1 : old_to], new.children[new_from + 1 : new_to]
-        yield from _of_gap(path, goes, old_from + 1, comes, kinds)
-        if old_to < ends[0]:
-            yield from _narrowed(old.children[old_to], new.children[new_to], (*path, old_to), kinds)
+    for goes, comes in gaps(pairs, len(old.children), len(new.children)):
+        yield from _of_gap(path, old.children[goes.start : goes.stop], goes.start, new.children[comes.start : comes.stop], kinds)
+        if goes.stop < len(old.children):
+            yield from _narrowed(old.children[goes.stop], new.children[comes.stop], (*path, goes.stop), kinds)
 
 
 # The changes where elements come for others. An import that is new comes alone: without it other changes may be wrong, and where it

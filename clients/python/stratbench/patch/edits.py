@@ -81,6 +81,12 @@ def aligned(kept: Sequence[Optional[int]]) -> list[tuple[int, int]]:
     return pairs[::-1]
 
 
+def gaps(pairs: Sequence[tuple[int, int]], old: int, new: int) -> list[tuple[range, range]]:
+    """Returns which old and new places are before each pair that stays, and after the last one, of so many."""
+    before = zip([(-1, -1), *pairs], [*pairs, (old, new)])
+    return [(range(old_from + 1, old_to), range(new_from + 1, new_to)) for (old_from, new_from), (old_to, new_to) in before]
+
+
 class Lines:
     """The starts of a text's lines, which a line feed, a carriage return or both end."""
 

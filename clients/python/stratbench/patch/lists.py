@@ -7,7 +7,7 @@ from collections.abc import Callable, Sequence
 from typing import NamedTuple, Optional, Protocol
 
 from ..terms import Term, position
-from .edits import Cannot, aligned
+from .edits import Cannot, aligned, gaps
 from .grammar import Field, Grammar
 from .layout import Layout, span
 from .rope import Break, Piece, Rope, placed
@@ -57,11 +57,10 @@ class Lists:
             raise Cannot
         there = _List(node, field, items, self._outer(node, field, items, sign), sign)
         edits: list[RopeEdit] = []
-        pairs = aligned(kept)
-        for (old_from, new_from), (old_to, new_to) in zip([(-1, -1), *pairs], [*pairs, (len(items), len(news))]):
-            edits += self._between(there, list(range(old_from + 1, old_to)), news[new_from + 1 : new_to], old_from)
-            if old_to < len(items):
-                edits += self._slots.slot(items[old_to], news[new_to], field.plain)
+        for goes, comes in gaps(aligned(kept), len(items), len(news)):
+            edits += self._between(there, goes, news[comes.start : comes.stop])
+            if goes.stop < len(items):
+                edits += self._slots.slot(items[goes.stop], news[comes.stop], field.plain)
         return edits
 
     def _each(self, items: Sequence[Term], news: Sequence[Term], field: Field) -> list[RopeEdit]:
@@ -127,7 +126,7 @@ class Lists:
         return found
 
     # The edits where elements come for others. The first ones come in the places of those that go.
-    def _between(self, there: _List, goes: Sequence[int], comes: Sequence[Term], before: int) -> list[RopeEdit]:
+    def _between(self, there: _List, goes: range, comes: Sequence[Term]) -> list[RopeEdit]:
         edits: list[RopeEdit] = []
         common = min(len(goes), len(comes))
         for at, it in zip(goes, comes):
@@ -138,7 +137,7 @@ class Lists:
         if len(goes) > common:
             return edits + (self._gone_with_sign(there, goes[common], goes[-1]) if there.sign else self._gone_lines(there, goes[common:]))
         if len(comes) > common:
-            after = goes[-1] if goes else before
+            after = goes.stop - 1
             edits += self._come_with_sign(there, after, comes[common:]) if there.sign else self._come_in_lines(there, after, comes[common:])
         return edits
 

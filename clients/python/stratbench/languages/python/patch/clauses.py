@@ -2,11 +2,12 @@
 
 from __future__ import annotations
 
-import tokenize
+from collections.abc import Iterable
+from itertools import takewhile
 
 from ....terms import LIST, Term
 from .commas import Commas
-from .edits import BLOCKS, PASS, PLACES, Cannot, Edit, aligned, field_of, span
+from .edits import BLOCKS, PASS, Cannot, Edit, aligned, blocks_of, field_of, gaps, span
 from .fresh import Fresh
 from .markers import name_of
 from .moved import Moved
@@ -30,18 +31,15 @@ class Clauses:
             return self._statements.block(old, new, name, inner)
         word = b"finally" if name == "finalbody" else b"else"
         if not one:
-            return [self._statements.line_after(self._last_before(old, name), outer + self._alternative(two, outer, inner, word), outer)]
+            before = _innermost_last(it for _, it in takewhile(lambda it: it[0] != name, blocks_of(old)))
+            return [self._statements.line_after(before, outer + self._alternative(two, outer, inner, word), outer)]
         begin, end = self._trees.begin(one[0]), span(one[-1])[1]
         is_elif = old.head == "If" and len(one) == 1 and one[0].head == "If" and self._trees.text[begin:].startswith(b"elif")
         if not two:
-            start = begin
-            if not is_elif:
-                at = self._trees.tokens.before(begin)
-                while self._trees.tokens.tokens[at].text not in ("else", "finally"):
-                    at -= 1
-                start = self._trees.tokens.tokens[at].first
+            if is_elif:
+                start = self._trees.leading_comments(begin, self._trees.carried)
             else:
-                start = self._trees.leading_comments(start, self._trees.carried)
+                start = self._trees.tokens.back(begin, "else", "finally").first
             # with the comments at its end
             end = self._trees.tail(self._trees.statement_end(one[-1])[0], outer, False)
             return [Edit(self._trees.line_start(start), self._trees.line_end(end)[1], b"")]
@@ -63,44 +61,21 @@ class Clauses:
             return b"el" + self._moved.rendered(new, outer)
         return word + b":" + self._trees.newline + inner + self._moved.rendered(new, inner)
 
-    def _last_before(self, old: Term, name: str) -> Term:
-        last = field_of(old, "body").children[-1]
-        for other in ("handlers", "orelse"):
-            if other == name or other not in PLACES[str(old.head)]:
-                break
-            parts = field_of(old, other).children
-            if parts:
-                last = field_of(parts[-1], "body").children[-1] if other == "handlers" else parts[-1]
-        while last.head in BLOCKS:
-            last = self._last_inside(last)
-        return last
-
-    def _last_inside(self, statement: Term) -> Term:
-        if statement.head == "Match":
-            return field_of(field_of(statement, "cases").children[-1], "body").children[-1]
-        for name in ("finalbody", "orelse", "handlers", "body"):
-            if name in PLACES[str(statement.head)] and field_of(statement, name).children:
-                last = field_of(statement, name).children[-1]
-                return field_of(last, "body").children[-1] if name == "handlers" else last
-        raise Cannot
-
     def parts(self, old: Term, new: Term, name: str) -> list[Edit]:
         """The handlers of a `try`, or the cases of a `match`."""
         one, two = field_of(old, name).children, field_of(new, name).children
         homes = {id(self._named(it)): at for at, it in enumerate(one)}
         pairs = aligned([homes.get(id(self._trees.origin(self._named(it)))) for it in two])
         edits: list[Edit] = []
-        for (old_from, new_from), (old_to, new_to) in zip([(-1, -1), *pairs], [*pairs, (len(one), len(two))]):
-            goes, comes = one[old_from + 1 : old_to], two[new_from + 1 : new_to]
-            pairs_of_gap = list(zip(goes, comes))
-            if old_to < len(one):
-                pairs_of_gap.append((one[old_to], two[new_to]))
-            for it, other in pairs_of_gap:
-                if it is not other:
-                    edits += self._nodes.settled(it, other)
-            edits += [self._without_part(it) for it in goes[len(comes) :]]
+        for goes, comes in gaps(pairs, len(one), len(two)):
+            # the first ones come in the places of those that go
+            stay = [(goes.stop, comes.stop)] if goes.stop < len(one) else []
+            for at, other in [*zip(goes, comes), *stay]:
+                if one[at] is not two[other]:
+                    edits += self._nodes.settled(one[at], two[other])
+            edits += [self._without_part(one[at]) for at in goes[len(comes) :]]
             if len(comes) > len(goes):
-                edits.append(self._more_parts(old, name, one[:old_to], comes[len(goes) :]))
+                edits.append(self._more_parts(old, name, one[: goes.stop], two[comes.start + len(goes) : comes.stop]))
         return edits
 
     # The node by which a handler or a case is known.
@@ -120,9 +95,7 @@ class Clauses:
             raise Cannot
         outer = self._trees.indent(self._trees.begin(before[0]) if before else span(old)[0])
         text = self._fresh_parts(str(old.head), comes, outer)
-        last = field_of(before[-1] if before else old, "body").children[-1]
-        while last.head in BLOCKS:
-            last = self._last_inside(last)
+        last = _innermost_last([field_of(before[-1] if before else old, "body")])
         return self._statements.line_after(last, outer + text, outer)
 
     # Handlers or cases made anew: the end of a statement that is made anew.
@@ -144,19 +117,19 @@ class Clauses:
         edits: list[Edit] = []
         for before, after in pairs:
             edits += self._nodes.child(new, one[before], two[after])
-        for (old_from, new_from), (old_to, new_to) in zip([(-1, -1), *pairs], [*pairs, (len(one), len(two))]):
-            goes, comes = one[old_from + 1 : old_to], two[new_from + 1 : new_to]
-            for it, other in zip(goes, comes):
-                edits.append(Edit(*self._commas.around((self._trees.at_sign(it), span(old)[0]), it), self._fresh.text(other, indent).encode()))
-            for it in goes[len(comes) :]:
-                begin = self._trees.leading_comments(self._trees.at_sign(it), self._trees.carried)
-                edits.append(Edit(self._trees.line_start(begin), self._decorator_end(it)[1], b""))
-            lines = [self._decorator(it, indent) for it in comes[len(goes) :]]
+        for goes, comes in gaps(pairs, len(one), len(two)):
+            for at, other in zip(goes, comes):
+                around = self._commas.around((self._trees.at_sign(one[at]), span(old)[0]), one[at])
+                edits.append(Edit(*around, self._fresh.text(two[other], indent).encode()))
+            for at in goes[len(comes) :]:
+                begin = self._trees.leading_comments(self._trees.at_sign(one[at]), self._trees.carried)
+                edits.append(Edit(self._trees.line_start(begin), self._trees.statement_end(one[at])[1], b""))
+            lines = [self._decorator(two[other], indent) for other in comes[len(goes) :]]
             if lines:
                 place = span(old)[0]
-                if old_to < len(one):
-                    place = self._trees.at_sign(one[old_to])
-                    place = self._trees.leading_comments(place) if old_to else place
+                if goes.stop < len(one):
+                    place = self._trees.at_sign(one[goes.stop])
+                    place = self._trees.leading_comments(place) if goes.stop else place
                 edits.append(Edit(place, place, b"".join(it + self._trees.newline + indent for it in lines)))
         return edits
 
@@ -174,8 +147,8 @@ class Clauses:
         text = self._trees.indented(self._trees.copied(begin, sign, []), self._trees.indent(sign), indent) + text
         return text if comment is None else text + self._trees.copied(end, comment.last, [])
 
-    def _decorator_end(self, decorator: Term) -> tuple[int, int]:
-        at = self._trees.tokens.after(span(decorator)[1])
-        while self._trees.tokens.tokens[at].kind != tokenize.NEWLINE:
-            at += 1
-        return self._trees.line_end(self._trees.tokens.tokens[at].first)
+
+# The last statement in some blocks, and in its own.
+def _innermost_last(blocks: Iterable[Term]) -> Term:
+    last = [it for it in blocks if it.children][-1].children[-1]
+    return _innermost_last(it for _, it in blocks_of(last)) if last.head in BLOCKS else last

@@ -7,7 +7,7 @@ from typing import Callable, NamedTuple, Protocol, Tuple, Union
 
 from ..source import position
 from ....terms import LIST, Term, string
-from .edits import COMPREHENSIONS, DISPLAYS, NONE, PASS, Cannot, Edit, aligned, field_of, is_same, span
+from .edits import COMPREHENSIONS, DISPLAYS, NONE, PASS, Cannot, Edit, aligned, field_of, gaps, is_same, span
 from .fresh import Fresh
 from .tokens import BRACKETS
 from .trees import Trees
@@ -141,18 +141,16 @@ class Commas:
                 if not is_same(before, after):
                     edits += self.nodes.child(owner, before, after)
         # what stands for nothing yet takes the place of what goes, in order
-        for (old_from, new_from), (old_to, new_to) in zip([(-1, -1), *pairs], [*pairs, (len(old), len(new))]):
-            goes = list(range(old_from + 1, old_to))
-            comes = list(range(new_from + 1, new_to))
+        for goes, comes in gaps(pairs, len(old), len(new)):
             for one, two in zip(goes, comes):
                 edits.append(Edit(old[one].first, old[one].last, text(new[two]).encode()))
             if len(goes) > len(comes):
-                edits += self._without(inside, old, goes[len(comes)], goes[-1], old_to < len(old), trailing)
+                edits += self._without(inside, old, goes[len(comes)], goes[-1], goes.stop < len(old), trailing)
             elif len(comes) > len(goes):
                 texts = [text(new[it]).encode() for it in comes[len(goes) :]]
-                last = goes[-1] if goes else old_from
-                if last >= 0:
-                    edits.append(Edit(old[last].last, old[last].last, b"".join(b", " + it for it in texts)))
+                if goes.stop:
+                    last = old[goes.stop - 1].last
+                    edits.append(Edit(last, last, b"".join(b", " + it for it in texts)))
                 elif old:
                     front.append(Edit(old[0].first, old[0].first, b"".join(it + b", " for it in texts)))
                 else:
@@ -235,11 +233,7 @@ class Commas:
             name = self._trees.tokens.tokens[at - 1]
             texts = [self._fresh.text(it, self._trees.frame(name.first)).encode() for it in after]
             return [Edit(name.last, name.last, b"(" + b", ".join(texts) + b")")]
-        depth, end = 1, at
-        while depth:
-            end += 1
-            depth += BRACKETS.get(self._trees.tokens.text_at(end), 0)
-        inside = (self._trees.tokens.tokens[at].last, self._trees.tokens.tokens[end].first)
+        inside = (self._trees.tokens.tokens[at].last, self._trees.tokens.closing(at).first)
         elements = [self.item(inside, it) for it in before]
         return self.items(new, inside, elements, [(it,) for it in after])
 
@@ -280,11 +274,7 @@ class Commas:
                 raise Cannot
             while tokens.text_at(at) != "(":
                 at += 1
-            depth, end = 1, at
-            while depth:
-                end += 1
-                depth += BRACKETS.get(tokens.text_at(end), 0)
-            inside = (tokens.tokens[at].last, tokens.tokens[end].first)
+            inside = (tokens.tokens[at].last, tokens.closing(at).first)
         indent = self._trees.frame(inside[0])
         before, after = flat_parameters(one), flat_parameters(two)
         alone = any(sign in ("/", "bare") for sign, _, _ in [*before, *after])

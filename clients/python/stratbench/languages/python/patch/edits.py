@@ -2,6 +2,7 @@
 
 from __future__ import annotations
 
+from collections.abc import Iterator
 from typing import Final
 
 from ....patch.edits import Cannot as Cannot
@@ -9,6 +10,7 @@ from ....patch.edits import Edit as Edit
 from ....patch.edits import Unwritable as Unwritable
 from ....patch.edits import aligned as aligned
 from ....patch.edits import apply_edits as apply_edits
+from ....patch.edits import gaps as gaps
 from ....terms import LIST, Term, string
 from ..source import CONSTRUCTORS, position
 
@@ -53,6 +55,15 @@ COMMAS: Final = {
 def field_of(term: Term, name: str) -> Term:
     """Returns the field of a node."""
     return term.children[PLACES[str(term.head)][name]]
+
+
+def blocks_of(statement: Term) -> Iterator[tuple[str, Term]]:
+    """Yields the blocks of a statement in the order of the text, each with the name of the field that it is in."""
+    for name, at in PLACES[str(statement.head)].items():
+        if name in ("handlers", "cases"):
+            yield from ((name, field_of(it, "body")) for it in statement.children[at].children)
+        elif name in BLOCKS[str(statement.head)]:
+            yield name, statement.children[at]
 
 
 def with_field(term: Term, name: str, value: Term) -> Term:

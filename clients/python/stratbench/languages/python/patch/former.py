@@ -6,7 +6,7 @@ from bisect import bisect_right
 from typing import Callable
 
 from ....terms import Term
-from .edits import BLOCKS, DEFINITIONS, STATEMENTS, field_of, span
+from .edits import BLOCKS, DEFINITIONS, STATEMENTS, blocks_of, field_of, span
 
 # The old node that a new one has the position of.
 Origin = Callable[[Term], "Term | None"]
@@ -102,18 +102,9 @@ class _Statements:
             if it.head in DEFINITIONS and field_of(it, "decorator_list").children:
                 first = span(field_of(it, "decorator_list").children[0])[0]
             self.found.append((first, last, it, above))
-            if it.head in BLOCKS:
-                self._add_parts(it, len(self.found) - 1)
-
-    def _add_parts(self, statement: Term, at: int) -> None:
-        names = BLOCKS[str(statement.head)]
-        if "body" in names:
-            self._add(field_of(statement, "body"), at)
-        for name in {"Try": "handlers", "TryStar": "handlers", "Match": "cases"}.get(str(statement.head), ""), *names[1:]:
-            for part in field_of(statement, name).children if name in ("handlers", "cases") else ():
-                self._add(field_of(part, "body"), at)
-            if name in ("orelse", "finalbody"):
-                self._add(field_of(statement, name), at)
+            at = len(self.found) - 1
+            for _, inner in blocks_of(it) if it.head in BLOCKS else ():
+                self._add(inner, at)
 
     def around(self, node: Term) -> Term | None:
         """The innermost statement around a node."""

@@ -249,11 +249,8 @@ class Nodes:
         if one.head == "None":
             return [Edit(colon, colon, b" -> " + self._fresh.text(two, self._trees.frame(colon)).encode())]
         if two.head == "None":
-            arrow = self._trees.tokens.before(span(one)[0])
-            while self._trees.tokens.tokens[arrow].text != "->":
-                arrow -= 1
-            end = self._trees.tokens.tokens[arrow - 1].last
-            return [Edit(end, colon, b"")]
+            arrow = self._trees.tokens.back(span(one)[0], "->").first
+            return [Edit(self._trees.tokens.tokens[self._trees.tokens.before(arrow)].last, colon, b"")]
         return self.child(new, one, two)
 
 

@@ -7,7 +7,7 @@ from collections.abc import Sequence
 from typing import NamedTuple
 
 from ....terms import LIST, Term
-from .edits import BLOCKS, IMPORTS, STATEMENTS, Cannot, Edit, aligned, field_of, span
+from .edits import BLOCKS, IMPORTS, STATEMENTS, Cannot, Edit, aligned, field_of, gaps, span
 from .fresh import Fresh
 from .moved import Moved
 from .nodes import Nodes
@@ -25,12 +25,10 @@ class Stretch(NamedTuple):
 # The stretches of a block of so many statements, before and after, of which these stay.
 def _stretches(old: int, new: int, pairs: list[tuple[int, int]]) -> list[Stretch]:
     found: list[Stretch] = []
-    goes = comes = 0
-    for at, other in [*pairs, (old, new)]:
-        if at > goes or other > comes:
-            found.append(Stretch(range(goes, at), range(comes, other), False))
-        found.append(Stretch(range(at, at + 1), range(other, other + 1), True))
-        goes, comes = at + 1, other + 1
+    for goes, comes in gaps(pairs, old, new):
+        if goes or comes:
+            found.append(Stretch(goes, comes, False))
+        found.append(Stretch(range(goes.stop, goes.stop + 1), range(comes.stop, comes.stop + 1), True))
     return found[:-1]
 
 
@@ -97,11 +95,9 @@ class Statements:
     # The old and the new places of the statements that are the same ones, in order.
     def _pairs(self, old: tuple[Term, ...], new: tuple[Term, ...]) -> list[tuple[int, int]]:
         homes = {id(it): at for at, it in enumerate(old)}
-        pairs = aligned([homes.get(id(self._trees.was(it))) for it in new])
         found: list[tuple[int, int]] = []
-        for (old_from, new_from), (old_to, new_to) in zip([(-1, -1), *pairs], [*pairs, (len(old), len(new))]):
-            goes, comes = range(old_from + 1, old_to), range(new_from + 1, new_to)
-            found += [*self._replacements(old, goes, new, comes), (old_to, new_to)]
+        for goes, comes in gaps(aligned([homes.get(id(self._trees.was(it))) for it in new]), len(old), len(new)):
+            found += [*self._replacements(old, goes, new, comes), (goes.stop, comes.stop)]
         return found[:-1]
 
     # Of the others one made anew of nothing old, or of parts of it, is the one of the same constructor that is gone.

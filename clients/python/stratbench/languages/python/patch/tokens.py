@@ -71,6 +71,21 @@ class Tokens:
         """Where the line of the grammar begins that a place is in."""
         return self.line_firsts[bisect_right(self.line_firsts, place) - 1]
 
+    def back(self, place: int, *texts: str) -> Token:
+        """The last token before a place that has one of these texts."""
+        at = self.before(place)
+        while self.tokens[at].text not in texts:
+            at -= 1
+        return self.tokens[at]
+
+    def closing(self, index: int) -> Token:
+        """The bracket that closes one."""
+        depth = 1
+        while depth:
+            index += 1
+            depth += BRACKETS.get(self.tokens[index].text, 0)
+        return self.tokens[index]
+
     def are_around(self, first: int, last: int) -> bool:
         """Whether round brackets are right before and after a text."""
         return self.text_at(self.before(first)) == "(" and self.text_at(self.after(last)) == ")"

@@ -16,7 +16,7 @@ from .comments import Marks
 from .edits import BLOCKS, COMPREHENSIONS, DEFINITIONS, DISPLAYS, Cannot, Edit, apply_edits, field_of, normal, parts_of, span
 from .former import Former
 from .markers import Brackets
-from .tokens import BRACKETS, Token, Tokens, inner_lines
+from .tokens import Token, Tokens, inner_lines
 
 
 class Trees:
@@ -88,10 +88,7 @@ class Trees:
     def begin(self, statement: Term) -> int:
         """Where a statement begins, with its decorators; or a case, which has no position."""
         if statement.head == "match_case":
-            at = self.tokens.before(span(field_of(statement, "pattern"))[0])
-            while self.tokens.tokens[at].text != "case":
-                at -= 1
-            return self.tokens.tokens[at].first
+            return self.tokens.back(span(field_of(statement, "pattern"))[0], "case").first
         first = span(statement)[0]
         if statement.head in DEFINITIONS and field_of(statement, "decorator_list").children:
             return self.at_sign(field_of(statement, "decorator_list").children[0])
@@ -99,10 +96,7 @@ class Trees:
 
     def at_sign(self, decorator: Term) -> int:
         """Where the sign before a decorator is."""
-        at = self.tokens.before(span(decorator)[0])
-        while self.tokens.tokens[at].text != "@":
-            at -= 1
-        return self.tokens.tokens[at].first
+        return self.tokens.back(span(decorator)[0], "@").first
 
     def line_start(self, place: int) -> int:
         """Where the line of a place begins."""
@@ -151,11 +145,7 @@ class Trees:
 
     def colon(self, statement: Term) -> int:
         """The place of the colon that ends the head of a statement."""
-        body = field_of(statement, "body").children[0]
-        at = self.tokens.before(self.begin(body))
-        while self.tokens.tokens[at].text != ":":
-            at -= 1
-        return self.tokens.tokens[at].first
+        return self.tokens.back(self.begin(field_of(statement, "body").children[0]), ":").first
 
     def comment_after(self, place: int) -> Token | None:
         """The comment after a place in its line."""
@@ -240,10 +230,5 @@ class Trees:
 
     def is_bracketed_tuple(self, term: Term) -> bool:
         """Whether the brackets of a tuple are its own."""
-        tokens = self.tokens.between(*span(term))
-        depth = 0
-        for at, token in enumerate(tokens):
-            depth += BRACKETS.get(token.text, 0)
-            if depth == 0:
-                return at == len(tokens) - 1 and tokens[0].text == "("
-        return False
+        first, last = span(term)
+        return self.text[first : first + 1] == b"(" and self.tokens.closing(self.tokens.after(first)).last == last
