@@ -24,13 +24,13 @@ With `Stratbench(embedded=True)` the session is in this process, in the shared o
 from __future__ import annotations
 
 import contextlib
-import os
 import re
 import time
 from collections.abc import Iterator, Sequence
 from types import TracebackType
 from typing import Final, NamedTuple, Union
 
+from . import installed
 from .diagnostics import Diagnostic, Told, others, parsed, told
 from .embedded import Embedded
 from .parts import Step, TooLong, Unbalanced, in_parts
@@ -177,10 +177,10 @@ class Stratbench:
                 raise ValueError("an embedded session takes no options and no seconds")
             if max_steps not in (None, _MOST_STEPS) or max_terms not in (None, _MOST_TERMS):
                 raise ValueError(f"an embedded session keeps the default limits: {_MOST_STEPS:,} steps and {_MOST_TERMS:,} terms")
-            path = program or os.environ.get("STRATBENCH_LIBRARY") or "libstratbench.so"
+            path = installed.library(program)
             self._process = Embedded(path, library, _STEPS if steps is None else steps)
             return
-        words = [program or os.environ.get("STRATBENCH") or "stratbench", *options]
+        words = [installed.program(program), *options]
         words += ["--explain=json"] + ["--library"] * library
         numbers = {"steps": steps, "max-steps": max_steps, "max-terms": max_terms}
         words += [f"--{option}={number}" for option, number in numbers.items() if number is not None]

@@ -15,11 +15,11 @@ the program's, and 127 without one.
 
 from __future__ import annotations
 
-import os
 import subprocess
 import sys
 from collections.abc import Iterator, Sequence
 
+from . import installed
 from .diagnostics import Diagnostic, Sentence, others, parsed
 
 
@@ -62,7 +62,7 @@ def main(words: Sequence[str]) -> int:
     *options, file = words
     check = ["--check"] if file.endswith(".str") and "--check" not in options else []
     try:
-        program = os.environ.get("STRATBENCH") or "stratbench"
+        program = installed.program()
         ran = subprocess.run([program, "--explain=json", *check, *options, file], stdout=subprocess.DEVNULL, stderr=subprocess.PIPE)
     except OSError as why:
         print(f"stratbench: {why}", file=sys.stderr)

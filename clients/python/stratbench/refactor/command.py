@@ -11,7 +11,7 @@ from collections.abc import Iterator, Sequence
 from types import FrameType
 from typing import Any
 
-from .. import languages
+from .. import installed, languages
 from ..cluster import Lost, Unreachable
 from ..concrete.text import Fault, Source
 from ..languages.language import Missing
@@ -66,7 +66,7 @@ def _stopping() -> Iterator[None]:
 
 def _arguments(words: Sequence[str] | None) -> argparse.Namespace:
     parser = argparse.ArgumentParser(
-        prog="python -m stratbench.refactor",
+        prog=installed.command("stratbench.refactor", "stratbench-refactor"),
         description="Refactors files of Python, JavaScript, TypeScript, Java, JSON and YAML by a strategy, with small patches.",
         epilog="Status: 0; 1 with --check where something would change; 2 for a wrong command line, module or strategy; "
         "3 where a file or a place was left, or files couldn't be written.",
@@ -151,7 +151,7 @@ def _task(given: argparse.Namespace) -> Task:
     words: list[str] = []
     for folder in given.modules:
         try:
-            words += _folder(folder)
+            words += _folder(installed.found(folder))
         except OSError as error:
             raise ValueError(f"--modules {folder}: {error.strerror}") from None
     words += given.module
@@ -166,7 +166,7 @@ def _task(given: argparse.Namespace) -> Task:
         if not equals:
             raise ValueError(f"--module: no NAME=FILE: {word}")
         try:
-            with open(file, "rb") as it:
+            with open(installed.found(file), "rb") as it:
                 modules.append((name, it.read()))
         except OSError as error:
             raise ValueError(f"--module {word}: {error.strerror}") from None
@@ -181,7 +181,7 @@ def _written_rules(given: argparse.Namespace) -> Written:
     read = []
     for name in given.rules:
         try:
-            with open(name, encoding="utf-8") as it:
+            with open(installed.found(name), encoding="utf-8") as it:
                 read.append(Source(name, it.read()))
         except (OSError, UnicodeDecodeError) as error:
             raise ValueError(f"--rules {name}: {getattr(error, 'strerror', None) or error}") from None

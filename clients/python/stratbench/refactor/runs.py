@@ -2,7 +2,6 @@
 
 from __future__ import annotations
 
-import os
 import re
 import subprocess
 import tempfile
@@ -11,6 +10,7 @@ from functools import cached_property
 from itertools import repeat
 from typing import Final, NamedTuple, Protocol
 
+from .. import installed
 from ..diagnostics import Diagnostic, others, parsed, told
 from ..places import Command, Text
 from ..terms import Shown, Term, deep, exchange, height, items, read, shown
@@ -134,7 +134,7 @@ class Bench:
 
     def __init__(self, room: str, task: Task) -> None:
         self.room, self.task = room, task
-        self.program = task.program or os.environ.get("STRATBENCH") or "stratbench"
+        self.program = installed.program(task.program)
         self.words = ["--library", f"--max-terms={bounds.MOST_TERMS}", f"--max-steps={MOST_STEPS}"]
         # where the steps of the last previews went
         self.steps: list[tuple[tuple[str, int], ...]] = []

@@ -10,6 +10,7 @@ import threading
 from collections.abc import Callable, Sequence
 from typing import IO, Any, Final
 
+from .. import installed
 from ..settings import BadSettings
 from . import answers, faults, layout, trying
 from .folder import Folder, Modules
@@ -344,13 +345,15 @@ _REQUESTS: Final[dict[str, Callable[[Server, dict[str, Any]], Any]]] = {
 }
 
 
-def main(words: Sequence[str]) -> int:
+def main(words: Sequence[str] | None = None) -> int:
     """Serves one editor over standard input and output."""
-    if words and list(words) != ["--stdio"]:
-        print(f"usage: python -m stratbench.server [--stdio]\n\n{__package__}: the language server for modules", file=sys.stderr)
+    given = sys.argv[1:] if words is None else list(words)
+    if given and given != ["--stdio"]:
+        name = installed.command("stratbench.server", "stratbench-server")
+        print(f"usage: {name} [--stdio]\n\n{__package__}: the language server for modules", file=sys.stderr)
         return 2
     try:
-        return Server(sys.stdout.buffer, os.environ.get("STRATBENCH") or "stratbench").run(sys.stdin.buffer)
+        return Server(sys.stdout.buffer, installed.program()).run(sys.stdin.buffer)
     except BrokenPipeError:
         # the editor is gone, and nobody reads what is left to be written
         os.dup2(os.open(os.devnull, os.O_WRONLY), sys.stdout.fileno())

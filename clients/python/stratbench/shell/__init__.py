@@ -16,6 +16,7 @@ import sys
 from collections.abc import Sequence
 
 from .. import Ended
+from ..installed import command
 from ..settings import BadSettings, settings_of
 from .commands import Quit, Shell
 from .lines import Reader, reader
@@ -23,7 +24,7 @@ from .session import Session
 
 
 def _arguments(words: Sequence[str] | None) -> argparse.Namespace:
-    parser = argparse.ArgumentParser(prog="python -m stratbench", description="A shell for the workbench stratbench.")
+    parser = argparse.ArgumentParser(prog=command("stratbench", "stratbench-shell"), description="A shell for the workbench stratbench.")
     parser.add_argument("--no-library", action="store_true", help="don't load the library of traversals")
     parser.add_argument("--steps", type=int, metavar="N", help="the budget of an apply that names none")
     parser.add_argument("--max-steps", type=int, metavar="N", help="the greatest budget, from 1,000,000 to 4,000,000,000")
