@@ -248,14 +248,10 @@ class Commas:
         after = list(zip(new.children[0].children, new.children[1].children))
 
         def text(parts: tuple[Term, ...]) -> str:
-            return self._between(Term("Dict", (Term(LIST, parts[:1]), Term(LIST, parts[1:]))), self._trees.frame(first), "{", "}")
+            key, value = (self._fresh.text(it, self._trees.frame(first)) if it.head != "None" else "" for it in parts)
+            return f"{key}: {value}" if key else f"**{value}"
 
         return self.items(new, inside, before, after, text)
-
-    # The text of a node that is made anew, of which only what is between two brackets is wanted.
-    def _between(self, term: Term, indent: bytes, opens: str, closes: str) -> str:
-        text = self._fresh.made(term, indent)
-        return text[text.index(opens) + 1 : text.rindex(closes)]
 
     def parameters(self, old: Term, one: Term, two: Term) -> list[Edit]:
         """The parameters of a function."""

@@ -9,7 +9,7 @@ from typing import Protocol
 
 from ..source import CONSTRUCTORS, parse, unparse
 from ....terms import LIST, NoTerm, Term, string
-from .edits import BLOCKS, COMPREHENSIONS, DISPLAYS, LOAD, STATEMENTS, Cannot, Edit, parts_of, span
+from .edits import BLOCKS, COMPREHENSIONS, DISPLAYS, LOAD, OPERATIONS, STATEMENTS, Cannot, Edit, parts_of, span
 from .markers import STRINGS, Piece, filled, marker_of, unparsed
 from .trees import Trees
 
@@ -74,7 +74,7 @@ class Fresh:
             return display
         pieces: list[Piece] = []
         made = self._with_pieces(term, pieces, indent, root=True)
-        text = filled(self._trees.brackets.loosened(self.fitting(unparsed(made))), pieces)
+        text = filled(self.fitting(unparsed(made)), pieces)
         if term.head in ("JoinedStr", "Constant") and old is not None:
             return self._requoted(text, old)
         return text
@@ -125,6 +125,9 @@ class Fresh:
             text = self._piece_text(term, indent)
             if text is None and not self._trees.plain:
                 text = self._display_text(term, indent)
+            if text is None and term.head in OPERATIONS:
+                # the brackets that `ast.unparse` would put around it may not be needed
+                text = self.made(term, indent)
             if text is not None:
                 shown, marker = marker_of(term, len(pieces))
                 pieces.append(Piece(shown, self._trees.brackets.of(term, text), term.head == "Constant" and text[0].isdigit()))
@@ -144,7 +147,7 @@ class Fresh:
         if term.head == "Expr" and term.children[0].head == "Constant":
             text = unparse(Term("Module", (Term(LIST, (stub,)), Term(LIST))))
         else:
-            text = brackets.loosened(unparsed(stub))
+            text = unparsed(stub)
         text = self.fitting(text).strip("\n")
         needed = brackets.needed(filled(text, pieces))
         if not blocks:

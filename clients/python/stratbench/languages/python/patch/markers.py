@@ -13,8 +13,6 @@ from ....terms import LIST, Term, string
 from ..source import parse, unparse
 from .edits import EXPRESSIONS, LOAD, NONE, OPEN, PATTERNS, Cannot, Edit
 
-# The most brackets of a new text that are tried to be left out.
-MOST_PAIRS: Final = 8
 STRINGS: Final = re.compile(r"""('''|\"\"\"|'|")(?:\\.|(?!\1).)*\1""", re.DOTALL)
 
 
@@ -32,28 +30,6 @@ def unparsed(term: Term) -> str:
     if term.head in ("NamedExpr", "Yield", "YieldFrom") and text.startswith("("):
         return text[1:-1]
     return text
-
-
-# The brackets of a text that aren't those of calls.
-def _pairs(text: str) -> list[tuple[int, int]]:
-    found: list[tuple[int, int]] = []
-    waiting: list[int] = []
-    for at, sign in enumerate(STRINGS.sub(lambda it: "_" * len(it.group()), text)):
-        if sign == "(":
-            waiting.append(at)
-        elif sign == ")" and waiting:
-            first = waiting.pop()
-            if not re.match(r"[\w)\]}]", text[first - 1 : first]):
-                found.append((first, at))
-    return sorted(found)
-
-
-def _is_operation(text: str) -> bool:
-    try:
-        [found] = parse(text.strip()).body
-    except (SyntaxError, ValueError):
-        return False
-    return isinstance(found, ast.Expr) and isinstance(found.value, (ast.UnaryOp, ast.BinOp, ast.Compare))
 
 
 def name_of(text: str) -> Term:
@@ -140,17 +116,6 @@ class Brackets:
 
     def without(self, text: str) -> str:
         return self.written(text, set())
-
-    def loosened(self, text: str) -> str:
-        """A text that is made anew with pairs in the place of brackets around operations. Of many none are."""
-        pairs = _pairs(text)
-        if len(pairs) > MOST_PAIRS:
-            return text
-        signs = list(text)
-        for first, last in reversed(pairs):
-            if _is_operation(text[first + 1 : last]):
-                signs[first], signs[last] = self.around("\0").split("\0")
-        return "".join(signs)
 
 
 def filled(text: str, pieces: Sequence[Piece]) -> str:

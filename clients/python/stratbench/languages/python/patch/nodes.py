@@ -174,10 +174,8 @@ class Nodes:
         if (head, name) == ("ExceptHandler", "name"):
             if not isinstance(one.head, bytes) or not isinstance(two.head, bytes):
                 raise Cannot
-            at = tokens.after(span(field_of(old, "type"))[1])
-            while tokens.tokens[at].text != "as":
-                at += 1
-            return [Edit(tokens.tokens[at + 1].first, tokens.tokens[at + 1].last, two.head)]
+            token = tokens.tokens[tokens.before(self._trees.colon(old))]
+            return [Edit(token.first, token.last, two.head)]
         if name == "names" and head in ("Global", "Nonlocal"):
             return self._names(old, one, two)
         if head == "ImportFrom" and name in ("module", "level"):
