@@ -195,6 +195,7 @@ def normal_all(term):
 WIDE = [
     ("a dictionary", "x = {{{}}}\n", "{}: 7,  # a\n"),
     ("a list", "x = [{}]\n", "7,\n"),
+    ("a list in which brackets come", "x = [{}]\n", "2 * 7,\n"),
     ("a tuple", "x = {}1\n", "7, "),
     ("a call", "f({})\n", "7, "),
     ("an operation", "x = {}1\n", "7 or "),

@@ -71,6 +71,8 @@ class Children(Protocol):
 
     def child(self, owner: Term, old: Term, new: Term) -> list[Edit]: ...
 
+    def element(self, owner: Term, old: Term, new: Term) -> list[Edit]: ...
+
     def fields(self, old: Term, new: Term) -> list[Edit]: ...
 
 
@@ -139,7 +141,7 @@ class Commas:
         for one, two in pairs:
             for before, after in zip(old[one].parts, new[two]):
                 if not is_same(before, after):
-                    edits += self.nodes.child(owner, before, after)
+                    edits += self.nodes.element(owner, before, after)
         # what stands for nothing yet takes the place of what goes, in order
         for goes, comes in gaps(pairs, len(old), len(new)):
             for one, two in zip(goes, comes):

@@ -149,7 +149,7 @@ class Fresh:
         else:
             text = unparsed(stub)
         text = self.fitting(text).strip("\n")
-        needed = brackets.needed(filled(text, pieces))
+        needed = brackets.needed(filled(text, pieces)) or set()
         if not blocks:
             text = filled(self._trees.indented(text.encode(), b"", indent).decode(), pieces)
             return brackets.written(text, needed).encode()

@@ -96,13 +96,12 @@ class Brackets:
     def are_in(self, text: bytes) -> bool:
         return self._sign.encode() in text and self._mark.search(text.decode()) is not None
 
-    def needed(self, text: str) -> set[int]:
-        """The pairs that a text of statements needs, so that its tree is the one that it has with all."""
+    def needed(self, text: str) -> set[int] | None:
+        """The pairs that a text of statements needs, so that its tree is the one that it has with all; or nothing where it has none then."""
         numbers = {int(it) for _, it in self._mark.findall(text)}
-        wanted = self._tree(text, numbers) if numbers else None
-        if wanted is None or self._tree(text, set()) == wanted:
-            return set()
-        return fewest(numbers, lambda some: self._tree(text, some) == wanted)
+        if not numbers or (wanted := self._tree(text, numbers)) is None:
+            return None
+        return set() if self._tree(text, set()) == wanted else fewest(numbers, lambda some: self._tree(text, some) == wanted)
 
     def written(self, text: str, some: Set[int]) -> str:
         """The text with these pairs, and without the others."""

@@ -19,6 +19,8 @@ from .trees import Trees
 
 # What is around the head of a statement, a handler or a case where it is parsed alone.
 _AROUND: Final = {"Match": ("", "\n case _: pass"), "ExceptHandler": ("try: pass\n", " pass"), "match_case": ("match _:\n ", " pass")}
+# The same of an element.
+_ELEMENTS: Final = {"List": ("[", "]"), "Tuple": ("[", "]"), "Set": ("[", "]"), "Dict": ("[", "]"), "Call": ("f(", ")")}
 
 
 class Parts(Protocol):
@@ -42,17 +44,36 @@ class Nodes:
     def settled(self, old: Term, new: Term) -> list[Edit]:
         """The edits within a statement, a handler or a case, with the brackets that its head needs."""
         edits = self.inside(old, new)
-        brackets = self._trees.brackets
-        if not any(brackets.are_in(it.text) for it in edits):
+        if not self._are_open(edits):
             return edits
         first, last = self._trees.head(old)
-        text = apply_edits(self._trees.text, first, last, [it for it in edits if first <= it.first and it.last <= last]).decode()
         before, after = _AROUND.get(str(old.head), ("", " pass" if old.head in BLOCKS else ""))
         if old.head in DEFINITIONS and self._trees.indent(first):
             before = f"if 1:\n{self._trees.indent(first).decode()}"
-        needed = brackets.needed(before + (text[2:] if text.startswith("elif") else text) + after)
-        edits = [it._replace(text=brackets.written(it.text.decode(), needed).encode()) for it in edits]
-        return [it for it in edits if it.first < it.last or it.text]
+        return self._closed(edits, first, last, before, after) or self._with_brackets(edits, set())
+
+    # Whether it isn't known of all brackets if they are needed.
+    def _are_open(self, edits: list[Edit]) -> bool:
+        return any(self._trees.brackets.are_in(it.text) for it in edits)
+
+    # Edits with the brackets that the text from one place to another needs, between two others; or nothing where that is no text of Python's.
+    def _closed(self, edits: list[Edit], first: int, last: int, before: str, after: str) -> list[Edit] | None:
+        text = apply_edits(self._trees.text, first, last, [it for it in edits if first <= it.first and it.last <= last]).decode()
+        needed = self._trees.brackets.needed(before + (text[2:] if text.startswith("elif") else text) + after)
+        return None if needed is None else self._with_brackets(edits, needed)
+
+    def _with_brackets(self, edits: list[Edit], needed: set[int]) -> list[Edit]:
+        found = [it._replace(text=self._trees.brackets.written(it.text.decode(), needed).encode()) for it in edits]
+        return [it for it in found if it.first < it.last or it.text]
+
+    def element(self, owner: Term, old: Term, new: Term) -> list[Edit]:
+        """The edits for an element of a new node, which may be one of many. So its brackets are looked for in itself, if there are none around
+        it, nor was or is it a generator, which may have those of a call."""
+        edits = self.child(owner, old, new)
+        around = _ELEMENTS.get(str(owner.head))
+        if around is None or position(old) is None or "GeneratorExp" in (old.head, new.head) or not self._are_open(edits):
+            return edits
+        return edits if self._trees.tokens.are_around(*span(old)) else self._closed(edits, *span(old), *around) or edits
 
     def node(self, old: Term, new: Term) -> list[Edit]:
         """The edits that make the old node the new one, which stands in its place."""
@@ -122,7 +143,7 @@ class Nodes:
             return word
         if one.head == LIST and two.head == LIST:
             if len(one.children) == len(two.children):
-                return [edit for it, other in zip(one.children, two.children) if not is_same(it, other) for edit in self.child(new, it, other)]
+                return [edit for it, other in zip(one.children, two.children) if not is_same(it, other) for edit in self.element(new, it, other)]
             least = COMMAS.get((head, name))
             if least is None or len(two.children) < least or not one.children:
                 if (head, name) != ("List", "elts"):
