@@ -15,6 +15,7 @@ import tempfile
 import time
 import zlib
 
+import try_mixed
 from packages import interpreter
 from stratbench import cluster
 from try_commands import Room, wanted
@@ -57,9 +58,9 @@ class Workers:
             self.ran.append(subprocess.Popen(command, cwd=self.folder, env=environment, stdout=log, stderr=log))
         return self.ran[-1]
 
-    def worker(self, name, program=None, sleep="0", ends=""):
+    def worker(self, name, program=None, sleep="0", ends="", **more):
         """Starts a worker, whose program notes each batch in the file of this name."""
-        environment = {"REAL": os.environ["STRATBENCH"], "BEGUN": f"{self.folder}/{name}", "SLEEP": sleep, "ENDS": ends}
+        environment = {"REAL": os.environ["STRATBENCH"], "BEGUN": f"{self.folder}/{name}", "SLEEP": sleep, "ENDS": ends, **more}
         words = ["--no-nanny", "--nthreads", "1", "--local-directory", self.folder, "--name", name, self.address]
         return self.start("worker", *words, STRATBENCH=program or self.program, **environment)
 
@@ -124,6 +125,7 @@ def tests(top, everything):
         yield f"left out, since this machine lacks python3-distributed: {why}", "CI=true" if os.environ.get("CI") == "true" else ""
         return
     yield from spread(top, python)
+    yield from mixed(top, python)
     yield from faults(top, python)
 
 
@@ -148,6 +150,40 @@ def spread(top, python):
         workers.wait(2)
         got = front.run("--write", "--cluster", workers.address)
         yield "a worker without the program", wanted(got, 3, None, "/none/stratbench") or ("" if front.numbers() == {1} else "a file changed")
+
+
+# Says whether what a language needs is there.
+THERE = "import sys; from stratbench import languages; languages.named(sys.argv[1]).sources([('a' + sys.argv[2], sys.argv[3].encode())])"
+
+
+def mixed(top, python):
+    """Files of other languages: each worker starts what they need, and what comes of them is what comes of them here."""
+    environment = {**os.environ, "PYTHONPATH": f"{top}/clients/python"}
+    with Workers(python) as workers:
+        for it in ("one", "two"):
+            workers.worker(it)
+        workers.wait(2)
+        for name, small in try_mixed.RULES.items():
+            ran = subprocess.run([python, "-c", THERE, name, small.suffix, small.text], env=environment, capture_output=True, text=True)
+            if ran.returncode != 0:
+                yield f"{name}: left out: {ran.stderr.splitlines()[-1]}", "CI=true" if os.environ.get("CI") == "true" else ""
+                continue
+            # few, since a batch is a process of its own, which starts what the language needs
+            texts = {f"{at}{small.suffix}": small.text for at in range(2)}
+            others = {f"loses{small.suffix}": small.loses, f"broken{small.suffix}": small.broken}
+            room = try_mixed.Room(top, {"mine.str": small.rules, **texts, **others}, python)
+            strategy = "oncetd(Rename) < topdown(try(Rename)) + topdown(try(Drop))"
+            words = ("--module", f"{small.rules.split()[1]}=mine.str", "--do", strategy, "--keep-comments", "--language", name, ".")
+            alone, got = room.run(*words), room.run(*words, "--cluster", workers.address)
+            whole = alone[0] == 3 and alone[1].count(b"+++") == len(texts) and "comment would be lost" in alone[2] and "broken" in alone[2]
+            yield f"{name} on two workers", "" if whole and got == alone else f"{got}\nwanted\n{alone}"
+    with Workers(python) as workers:
+        workers.worker("one", NODE="/nowhere/node")
+        workers.wait(1)
+        room = try_mixed.Room(top, {"mine.str": try_mixed.SCRIPT, "a.js": "old(1);\n"}, python)
+        status, out, said = room.run("--module", "script=mine.str", "--do", "topdown(try(Rename))", "--write", "--cluster", workers.address, "a.js")
+        right = (status, out, room.has("a.js")) == (3, b"", b"old(1);\n") and "JavaScript needs node" in said and "nothing was written" in said
+        yield "a worker without what a language needs", "" if right else f"{status} {out} {said}"
 
 
 def faults(top, python):
