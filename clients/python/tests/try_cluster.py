@@ -15,6 +15,7 @@ import tempfile
 import time
 import zlib
 
+import try_languages
 import try_mixed
 from packages import interpreter
 from stratbench import cluster
@@ -164,6 +165,8 @@ def mixed(top, python):
             workers.worker(it)
         workers.wait(2)
         for name, small in try_mixed.RULES.items():
+            # it is installed where that can be done
+            try_languages.missing(name)
             ran = subprocess.run([python, "-c", THERE, name, small.suffix, small.text], env=environment, capture_output=True, text=True)
             if ran.returncode != 0:
                 yield f"{name}: left out: {ran.stderr.splitlines()[-1]}", "CI=true" if os.environ.get("CI") == "true" else ""

@@ -7,13 +7,13 @@ installed where that can be done.
 import glob
 import os
 import re
-import sys
 import tempfile
 import zipfile
 import zlib
 
 import grammars
 import layouts
+import packages
 import try_mixed
 from stratbench import languages, refactor
 from stratbench.languages.language import Fault, Missing
@@ -24,17 +24,14 @@ PACKAGES = {"javascript": ["nodejs", "node-babel7"], "yaml": ["python3-yaml"], "
 SMALL = {"javascript": b"x", "json": b"1", "yaml": b"a: 1\n", "java": b"class A {}"}
 
 
-def missing(name, top):
+def missing(name):
     """What a language lacks on this machine, after it was tried to install it."""
     language = languages.named(name)
     try:
         language.sources([("a" + language.suffixes[0], SMALL[name])])
         return ""
     except Missing as error:
-        sys.path.append(f"{top}/tools")
-        from embedding import installed
-
-        if name in PACKAGES and installed(PACKAGES[name]):
+        if name in PACKAGES and not any([packages.installed(it) for it in PACKAGES[name]]):
             try:
                 language.sources([("a" + language.suffixes[0], SMALL[name])])
                 return ""
@@ -179,7 +176,7 @@ COMMENT = re.compile(rb"//[^\n]*|/\*.*?\*/", re.DOTALL)
 
 def tests(top, everything):
     for name in (it for it in languages.NAMES if it != "python"):
-        lacks = missing(name, top)
+        lacks = missing(name)
         if lacks:
             yield f"{name}: left out: {lacks}", lacks if os.environ.get("CI") == "true" else ""
             continue
