@@ -21,25 +21,14 @@ import subprocess
 import sys
 import tempfile
 
-TOP = os.path.dirname(os.path.dirname(os.path.dirname(os.path.realpath(__file__))))
 sys.dont_write_bytecode = True
-sys.path.insert(0, f"{TOP}/tools")
+from gate import TOP, crates  # noqa: E402
 
+sys.path.insert(0, f"{TOP}/tools")
 from c_library import kit  # noqa: E402
 
 # What is saved for a function, at the end of a module's name.
 KIND = re.compile(r"\.(Lts|Code|Proof|Tie|TheLinks?|Met|Statement|Key|Layout|Reads|Symbol|Given|Carried|Kinds|Named)\b.*")
-
-
-def crates():
-    """The crates, lowest first, and what each stands on."""
-    found = {}
-    with open(f"{TOP}/crates.txt") as lines:
-        for line in lines:
-            if ":" in line and not line.startswith("#"):
-                name, _, below = line.partition(":")
-                found[name.split()[0]] = below.split()
-    return found
 
 
 def command(crate, libraries, room):
