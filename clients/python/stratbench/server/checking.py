@@ -157,8 +157,8 @@ class Session:
             wanted = {name: it for name, it in wanted.items() if name not in faulty}
         else:
             wanted, said = {}, []
-        with _files(wanted) as words:
-            self._process = Process([*self._words, *words])
+        with _files(wanted) as names:
+            self._process = Process([*self._words, *_loading(names)])
             # which it answers after it has read the files
             self._answers(["history"])
         self._texts, self._warnings, self._signatures = wanted, _by_module(wanted, said), _signatures(wanted)
@@ -166,12 +166,11 @@ class Session:
 
     # What another process says of modules together: why they are refused, or their warnings.
     def _looked(self, texts: Mapping[str, Sent]) -> list[Said]:
-        with _files(texts) as words:
+        with _files(texts) as names:
             ran = subprocess.run(
-                [*self._words, "--check", *words, *[os.devnull] * (not words)],
+                [*self._words, "--check", *_loading(names), *[os.devnull] * (not names)],
                 stdin=subprocess.DEVNULL, stdout=subprocess.DEVNULL, stderr=subprocess.PIPE, timeout=_SECONDS,
             )  # fmt: skip
-        names = {word.partition("=")[2].partition("=")[2]: name for word, name in zip(words, texts)}
         said = ran.stderr.decode(errors="replace")
         found = [Said(names.get(it.file or ""), it) for it in parsed(said)]
         if ran.returncode not in (0, 1):
@@ -232,17 +231,22 @@ class Session:
         return answers, [Said(begins.get(it.line or 0), it) for it in parsed(self._process.said())]
 
 
-# The words by which the program loads modules, each from a file of its own meanwhile.
+# The names of modules, by the file in which each is meanwhile.
 @contextlib.contextmanager
-def _files(texts: Mapping[str, Sent]) -> Iterator[list[str]]:
+def _files(texts: Mapping[str, Sent]) -> Iterator[dict[str, str]]:
     with tempfile.TemporaryDirectory(prefix="stratbench-") as room:
-        words = []
+        names = {}
         for number, (name, it) in enumerate(texts.items()):
             file = os.path.join(room, f"{number}.str")
             with open(file, "w", encoding="utf-8", errors="replace", newline="") as out:
                 out.write(it.sent)
-            words.append(f"--module={name}={file}")
-        yield words
+            names[file] = name
+        yield names
+
+
+# The words by which the program loads them.
+def _loading(names: Mapping[str, str]) -> list[str]:
+    return [f"--module={name}={file}" for file, name in names.items()]
 
 
 def _signatures(texts: Mapping[str, Sent]) -> dict[str, list[str]]:

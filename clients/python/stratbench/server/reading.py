@@ -135,9 +135,13 @@ class Module:
         """Returns the name at a place, or one that ends there."""
         return next((it for it in self.names if it.begin <= place <= it.end), None)
 
+    @cached_property
+    def _places(self) -> dict[int, tuple[int, int]]:
+        return {id(one): (begin, end) for one, begin, end in self.steps}
+
     def place_of(self, it: Strategy) -> tuple[int, int] | None:
         """Returns where a call or a closure of this module is."""
-        return next(((begin, end) for one, begin, end in self.steps if one is it), None)
+        return self._places.get(id(it))
 
     def definition_at(self, place: int) -> Definition | None:
         """Returns the definition at a place."""
