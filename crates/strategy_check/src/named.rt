@@ -12,7 +12,6 @@ use strategy_syntax::Module;
 use term_core::{Label, NoMemory};
 
 /// A module with its name, and what it defines and mentions.
-#[derive(Drop)]
 pub struct NamedModule {
     name: Label,
     module: Module,
@@ -40,6 +39,19 @@ impl Model for NamedModule {
         × (m.mentions ≡ mentioned m.module) };
 }
 
+// By hand: a derived drop is proved anew in each crate that drops it.
+impl Drop for NamedModule {
+    fn drop(self) {
+        let NamedModule {
+            name: _,
+            module: _,
+            defines: _,
+            mentions: _,
+            text: _,
+        } = self;
+    }
+}
+
 impl NamedModule {
     /// The module with this name, whose text has no number.
     pub fn new(alloc: Global, name: Label, module: Module) -> Result<NamedModule, NoMemory>
@@ -58,10 +70,11 @@ impl NamedModule {
     }
 
     /// The same module, whose text has this number.
-    pub fn in_text(self, text: u32) -> NamedModule
+    pub fn in_text(mut self, text: u32) -> NamedModule
         ensures { result ≡ self }
     {
-        NamedModule { text, ..self }
+        self.text = text;
+        self
     }
 
     /// The number of its text, which its resolved definitions have, too. It stays when other

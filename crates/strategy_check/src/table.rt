@@ -15,7 +15,6 @@ use strategy_syntax::{Constructor, Definition, Module, Placed};
 use term_core::{Name, NoMemory};
 
 /// The keys of the definitions, whose indices are the numbers of these, and the constructors.
-#[derive(Drop)]
 pub struct Table {
     pub definitions: IndexSet<DefinitionKey>,
     pub constructors: IndexSet<Constructor>,
@@ -30,6 +29,16 @@ impl Model for Table {
       definitions = t.definitions.keys;
       constructors = t.constructors.keys;
     } };
+}
+
+// By hand: a derived drop is proved anew in each crate that drops it.
+impl Drop for Table {
+    fn drop(self) {
+        let Table {
+            definitions: _,
+            constructors: _,
+        } = self;
+    }
 }
 
 impl Table {

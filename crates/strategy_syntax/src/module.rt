@@ -8,7 +8,7 @@ use std::marker::Model;
 use term_core::Name;
 
 /// A constructor that a signature declares, with the number of its arguments.
-#[derive(Drop, PartialEq, Eq, Hash)]
+#[derive(PartialEq, Eq, Hash)]
 pub struct Constructor {
     name: Name,
     arity: usize,
@@ -27,8 +27,14 @@ impl Model for Constructor {
     ghost inverse = { λ c. record { name = c.name; arity = c.arity } };
 }
 
+// By hand: a derived drop is proved anew in each crate that drops it.
+impl Drop for Constructor {
+    fn drop(self) {
+        let Constructor { name: _, arity: _ } = self;
+    }
+}
+
 /// A definition `f(s1,..,sn|x1,..,xm) = s`. A rule is one too, with its body in core forms.
-#[derive(Drop)]
 pub struct Definition {
     name: Name,
     strategy_parameters: Vec<Name>,
@@ -54,8 +60,20 @@ impl Model for Definition {
     } };
 }
 
+// By hand: a derived drop is proved anew in each crate that drops it.
+impl Drop for Definition {
+    fn drop(self) {
+        let Definition {
+            name: _,
+            strategy_parameters: _,
+            term_parameters: _,
+            body: _,
+            place: _,
+        } = self;
+    }
+}
+
 /// The declarations and definitions of a module, in the order of its text.
-#[derive(Drop)]
 pub struct Module {
     constructors: Vec<Placed<Constructor>>,
     definitions: Vec<Definition>,
@@ -73,6 +91,16 @@ impl Model for Module {
       constructors = m.constructors.items;
       definitions = m.definitions.items;
     } };
+}
+
+// By hand: a derived drop is proved anew in each crate that drops it.
+impl Drop for Module {
+    fn drop(self) {
+        let Module {
+            constructors: _,
+            definitions: _,
+        } = self;
+    }
 }
 
 impl Constructor {
@@ -129,10 +157,11 @@ impl Definition {
     }
 
     /// The same definition, at this place of its text.
-    pub fn at(self, place: Place) -> Definition
+    pub fn at(mut self, place: Place) -> Definition
         ensures { result ≡ self }
     {
-        Definition { place, ..self }
+        self.place = place;
+        self
     }
 
     /// Where it stands in its text, from its name on.
