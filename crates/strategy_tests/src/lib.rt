@@ -1,6 +1,6 @@
 //! Calls of strategies that no command makes: texts that are parsed alike, where the definitions of a
 //! module are, rows by each call of the evaluator, primitives of a host, strategies that no text
-//! leads to, and modules that are replaced. The crate holds only tests, so that parser, checker and
+//! leads to, modules that are replaced, and changes that are undone. The crate holds only tests, so that parser, checker and
 //! machine are proved once and not again with their tests. What texts are read as, and what is wrong
 //! with one that isn't read, is shown by the answers of commands in `rows/` at the top of the
 //! repository.
@@ -22,5 +22,7 @@ mod replacing;
 mod rows;
 #[cfg(test)]
 mod scopes;
+#[cfg(test)]
+mod slots;
 #[cfg(test)]
 mod unknown;

@@ -62,6 +62,38 @@ fn rests_are_built(alloc: Global) -> Result<bool, NoMemory> {
     is_rest_in_new_cells(alloc, &pattern, &list)
 }
 
+// A variable matches any term, and then that one alone; it builds it.
+fn is_bound<'t>(
+    alloc: Global,
+    cells: &mut Cells<'t>,
+    x: &'t ResolvedPattern,
+    one: &'t Term,
+    two: &'t Term,
+) -> Result<bool, NoMemory> {
+    let variables = InSlice { cells: &CELLS };
+    cells.open_cells(1)?;
+    let is_first = cells.matches_term(alloc, &variables, x, one)?;
+    let is_second = cells.matches_term(alloc, &variables, x, two)?;
+    let built = cells.build_term(alloc, &variables, x, 0, MAX_SIZE)?;
+    let is_built = matches!(&built, BuiltTerm::Term(term) if term.equals(one));
+    Ok(is_first && !is_second && is_built)
+}
+
+fn variables_are_bound(alloc: Global) -> Result<bool, NoMemory> {
+    let x = ResolvedPattern::new(ResolvedPatternForm::Variable(0));
+    let x = Box::new(alloc, x)?;
+    let one = Term::integer(alloc, 1);
+    let two = Term::integer(alloc, 2);
+    let mut cells = Cells::new(alloc);
+    is_bound(alloc, &mut cells, &x, &one, &two)
+}
+
+#[test]
+fn bound_variables_match_their_term_alone(rt: HostRuntime) -> Result<(), Fail> {
+    assert!(rt; variables_are_bound(rt.alloc())?);
+    Ok(())
+}
+
 #[test]
 fn owned_terms_match_and_are_built(rt: HostRuntime) -> Result<(), Fail> {
     assert!(rt; rests_are_built(rt.alloc())?);
