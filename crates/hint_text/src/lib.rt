@@ -12,7 +12,7 @@ pub use command::{
 };
 pub use ground::Ground;
 pub use modules::{
-    KnownModule, ModuleTexts, arity_of, bytes_at, declaring, is_sign, module_of, token_of,
-    tokens_of,
+    KnownModule, ModuleTexts, arity_of, bytes_at, declaring, is_sign, known_modules,
+    missing_modules, module_of, token_of, tokens_of,
 };
 pub use numbered::Numbered;

@@ -2,8 +2,10 @@
 //! it doesn't keep is read here.
 
 use crate::command::CommandParts;
+use crate::ground::Ground;
+use prim_core::Meaning;
 use script_text::Keyword;
-use session_history::{CheckedTexts, Timeline};
+use session_history::{CheckedTexts, ReadModule, Refusal, Timeline, read_module};
 use std::alloc::Global;
 use strategy_check::NamedModule;
 use strategy_parse::{ParseFault, bytes_of, parse_module};
@@ -40,42 +42,31 @@ impl<'a> KnownModule<'a> {
 #[derive(Drop)]
 pub struct ModuleTexts<'a> {
     before: &'a [NamedModule],
-    before_texts: usize,
     read: Vec<NamedModule>,
     texts: Vec<&'a [u8]>,
     after: &'a [NamedModule],
-    after_texts: usize,
     kept: Option<&'a CheckedTexts>,
 }
 
 impl<'a> ModuleTexts<'a> {
-    /// Those of the history as they are once the command is obeyed, or after it, if it was accepted. A
+    /// Those of the history as they would be if the command, which was refused, had been obeyed. A
     /// text that is no module is left out.
     ///
     /// Errors: `NoMemory` if memory can't grow.
-    pub fn read(
+    pub fn read<M: Meaning>(
         alloc: Global,
-        history: &'a Timeline,
-        kept: Option<&'a CheckedTexts>,
+        ground: &Ground<'a, M>,
         parts: &CommandParts<'a>,
-        is_accepted: bool,
     ) -> Result<ModuleTexts<'a>, NoMemory> {
-        let names = history.module_names()?;
+        let wanted = wanted_texts(alloc, ground.history, parts)?;
         let mut texts = ModuleTexts {
             before: &[],
-            before_texts: 0,
             read: Vec::new(alloc),
             texts: Vec::new(alloc),
             after: &[],
-            after_texts: 0,
-            kept,
+            kept: ground.kept,
         };
-        match kept {
-            Some(kept) if are_kept(history, kept, &names, parts) => {
-                texts.take_kept(kept, parts, is_accepted)?;
-            }
-            _ => texts.read_all(history, &names, parts)?,
-        }
+        texts.take(&wanted)?;
         Ok(texts)
     }
 
@@ -101,11 +92,14 @@ impl<'a> ModuleTexts<'a> {
         parts: &CommandParts<'s>,
     ) -> Result<Vec<KnownModule<'s>>, NoMemory> {
         let mut known = Vec::new(alloc);
-        self.push_kept(&mut known, self.before, self.before_texts, parts)?;
+        self.push_kept(&mut known, self.before, 0, parts)?;
         for (module, text) in self.read.iter().zip(&self.texts) {
             push(&mut known, module, text, parts)?;
         }
-        self.push_kept(&mut known, self.after, self.after_texts, parts)?;
+        if let Some(kept) = self.kept {
+            let first = kept.modules().len().saturating_sub(self.after.len());
+            self.push_kept(&mut known, self.after, first, parts)?;
+        }
         Ok(known)
     }
 
@@ -126,78 +120,182 @@ impl<'a> ModuleTexts<'a> {
         Ok(())
     }
 
-    // Takes all that are kept, but for the module of a command that was refused, which is read.
-    fn take_kept(
-        &mut self,
-        kept: &'a CheckedTexts,
-        parts: &CommandParts<'a>,
-        is_accepted: bool,
-    ) -> Result<(), NoMemory> {
-        let modules = kept.modules();
-        if is_accepted || !changes(parts) {
-            self.before = modules;
-            return Ok(());
+    // Takes those that the session keeps at both ends, and reads those between them.
+    fn take(&mut self, wanted: &[WantedText<'a>]) -> Result<(), NoMemory> {
+        let mut front = 0;
+        let mut end = wanted.len();
+        if let Some(kept) = self.kept {
+            let modules = kept.modules();
+            front = same_front(kept, wanted);
+            let back = same_back(kept, wanted, front);
+            end = end.saturating_sub(back);
+            self.before = modules.get(..front).unwrap_or(&[]);
+            let after = modules.len().saturating_sub(back);
+            self.after = modules.get(after..).unwrap_or(&[]);
         }
-        let at = modules
-            .iter()
-            .position(|it| parts.name <= it.name().bytes())
-            .unwrap_or(modules.len());
-        let is_there = modules
-            .get(at)
-            .is_some_and(|it| it.name().bytes() == parts.name);
-        let end = if is_there { at.saturating_add(1) } else { at };
-        self.before = modules.get(..at).unwrap_or(&[]);
-        self.after = modules.get(end..).unwrap_or(&[]);
-        self.after_texts = end;
-        self.read_command(parts)
-    }
-
-    // Reads all, the module of the command in its place.
-    fn read_all(
-        &mut self,
-        history: &'a Timeline,
-        names: &[Label],
-        parts: &CommandParts<'a>,
-    ) -> Result<(), NoMemory> {
-        let mut is_read = false;
-        for name in names {
-            if parts.is_module() && !is_read && parts.name <= name.bytes() {
-                self.read_command(parts)?;
-                is_read = true;
-            }
-            if let Some(text) = history.module_text(name)
-                && !is_replaced(parts, name)
-            {
-                self.push_read(name, text)?;
-            }
-        }
-        if is_read {
-            return Ok(());
-        }
-        self.read_command(parts)
-    }
-
-    fn read_command(&mut self, parts: &CommandParts<'a>) -> Result<(), NoMemory> {
-        if parts.is_module()
-            && let Ok(name) = Label::read(*self.texts.allocator(), parts.name)
-        {
-            return self.push_read(&name, parts.text);
+        for it in wanted.get(front..end).unwrap_or(&[]) {
+            self.push_read(it)?;
         }
         Ok(())
     }
 
-    fn push_read(&mut self, name: &Label, text: &'a [u8]) -> Result<(), NoMemory> {
+    fn push_read(&mut self, wanted: &WantedText<'a>) -> Result<(), NoMemory> {
         let alloc = *self.texts.allocator();
-        match parse_module(alloc, text) {
+        match parse_module(alloc, wanted.text) {
             Ok(module) => {
-                let module = NamedModule::new(alloc, name.try_clone()?, module)?;
+                let module = NamedModule::new(alloc, wanted.name.try_clone()?, module)?;
                 self.read.push(module)?;
-                Ok(self.texts.push(text)?)
+                Ok(self.texts.push(wanted.text)?)
             }
             Err(ParseFault::Memory) => Err(NoMemory),
             Err(_) => Ok(()),
         }
     }
+}
+
+// The name of a module, and its text.
+#[derive(Drop)]
+struct WantedText<'a> {
+    name: Label,
+    text: &'a [u8],
+}
+
+// The texts of the modules if the command is obeyed, in the order of their names.
+fn wanted_texts<'a>(
+    alloc: Global,
+    history: &'a Timeline,
+    parts: &CommandParts<'a>,
+) -> Result<Vec<WantedText<'a>>, NoMemory> {
+    let changes = matches!(parts.command, Keyword::Module | Keyword::Unload);
+    let mut wanted = Vec::new(alloc);
+    for name in history.module_names()?.iter() {
+        if let Some(text) = history.module_text(name)
+            && !(changes && name.bytes() == parts.name)
+        {
+            let name = name.try_clone()?;
+            wanted.push(WantedText { name, text })?;
+        }
+    }
+    if parts.is_module()
+        && let Ok(name) = Label::read(alloc, parts.name)
+    {
+        let is_after = |it: &WantedText<'_>| parts.name < it.name.bytes();
+        let at = wanted.iter().position(is_after).unwrap_or(wanted.len());
+        wanted.insert(
+            at,
+            WantedText {
+                name,
+                text: parts.text,
+            },
+        )?;
+    }
+    Ok(wanted)
+}
+
+// How many of the first modules are the first that are kept.
+fn same_front(kept: &CheckedTexts, wanted: &[WantedText<'_>]) -> usize {
+    for (number, it) in wanted.iter().enumerate() {
+        if !is_kept_at(kept, number, it) {
+            return number;
+        }
+    }
+    wanted.len()
+}
+
+// How many of the last modules are the last that are kept. The first ones, so many, don't count.
+fn same_back(kept: &CheckedTexts, wanted: &[WantedText<'_>], front: usize) -> usize {
+    let count = kept.modules().len();
+    let most = count.min(wanted.len()).saturating_sub(front);
+    for (back, it) in wanted.iter().rev().take(most).enumerate() {
+        let last = count.saturating_sub(back).saturating_sub(1);
+        if !is_kept_at(kept, last, it) {
+            return back;
+        }
+    }
+    most
+}
+
+// Whether the module that is kept at this index is this one.
+fn is_kept_at(kept: &CheckedTexts, index: usize, wanted: &WantedText<'_>) -> bool {
+    match (kept.modules().get(index), kept.text(index)) {
+        (Some(module), Some(text)) => {
+            module.name().bytes() == wanted.name.bytes() && text == wanted.text
+        }
+        _ => false,
+    }
+}
+
+/// The modules of the history that the session doesn't keep, read from their texts.
+///
+/// Errors: `NoMemory` if memory can't grow.
+pub fn missing_modules<M: Meaning>(
+    alloc: Global,
+    ground: &Ground<'_, M>,
+) -> Result<Vec<ReadModule>, NoMemory> {
+    let mut missing = Vec::new(alloc);
+    for name in ground.history.module_names()?.iter() {
+        if let Some(text) = ground.history.module_text(name)
+            && kept_module(ground, &[], name, text).is_none()
+        {
+            match read_module(alloc, name, text) {
+                Ok(read) => missing.push(read)?,
+                Err(refusal) => {
+                    if let Refusal::Memory = refusal {
+                        return Err(NoMemory);
+                    }
+                }
+            }
+        }
+    }
+    Ok(missing)
+}
+
+/// The modules of the history after the command, which was accepted: those that the session keeps, and
+/// these, which it doesn't.
+///
+/// Errors: `NoMemory` if memory can't grow.
+pub fn known_modules<'a, M: Meaning>(
+    alloc: Global,
+    ground: &Ground<'a, M>,
+    missing: &'a [ReadModule],
+    parts: &CommandParts<'a>,
+) -> Result<Vec<KnownModule<'a>>, NoMemory> {
+    let mut known = Vec::new(alloc);
+    for name in ground.history.module_names()?.iter() {
+        if let Some(text) = ground.history.module_text(name)
+            && let Some(module) = kept_module(ground, missing, name, text)
+        {
+            push(&mut known, module, text, parts)?;
+        }
+    }
+    Ok(known)
+}
+
+// The module of this name that was read from this text, if the session keeps it, or it is one of these.
+fn kept_module<'a, M: Meaning>(
+    ground: &Ground<'a, M>,
+    missing: &'a [ReadModule],
+    name: &Label,
+    text: &[u8],
+) -> Option<&'a NamedModule> {
+    if let Some(kept) = ground.kept
+        && let Some(index) = index_of(kept.modules(), name)
+        && kept.text(index) == Some(text)
+    {
+        return kept.modules().get(index);
+    }
+    for read in ground.waiting.iter().chain(missing) {
+        if read.is(name, text) {
+            return Some(read.named());
+        }
+    }
+    None
+}
+
+// The index of the module of this name; the modules are in the order of their names.
+fn index_of(modules: &[NamedModule], name: &Label) -> Option<usize> {
+    let by_name = |it: &NamedModule| it.name().bytes().cmp(name.bytes());
+    modules.binary_search_by(by_name).ok()
 }
 
 fn push<'s>(
@@ -213,53 +311,6 @@ fn push<'s>(
         text: if is_new { parts.text } else { text },
         is_new,
     })?)
-}
-
-// Whether the modules that are kept are those of the history, but for the one of the command.
-fn are_kept(
-    history: &Timeline,
-    kept: &CheckedTexts,
-    names: &[Label],
-    parts: &CommandParts<'_>,
-) -> bool {
-    let mut number = 0usize;
-    let modules = kept.modules();
-    for name in names {
-        if is_replaced(parts, name) {
-            continue;
-        }
-        if modules
-            .get(number)
-            .is_some_and(|it| is_replaced(parts, it.name()))
-        {
-            number = number.saturating_add(1);
-        }
-        let is_same = match (modules.get(number), kept.text(number)) {
-            (Some(module), Some(text)) => {
-                module.name().bytes() == name.bytes() && history.module_text(name) == Some(text)
-            }
-            _ => false,
-        };
-        if !is_same {
-            return false;
-        }
-        number = number.saturating_add(1);
-    }
-    modules
-        .get(number..)
-        .unwrap_or(&[])
-        .iter()
-        .all(|it| is_replaced(parts, it.name()))
-}
-
-// Whether the command loads or removes a module.
-fn changes(parts: &CommandParts<'_>) -> bool {
-    matches!(parts.command, Keyword::Module | Keyword::Unload)
-}
-
-// Whether it is the module of this name.
-fn is_replaced(parts: &CommandParts<'_>, name: &Label) -> bool {
-    changes(parts) && name.bytes() == parts.name
 }
 
 /// The first of the modules that declares a constructor of this name with so many arguments.

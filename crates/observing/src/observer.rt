@@ -268,6 +268,7 @@ fn ground_of<M: Meaning>(session: &Session<M>) -> Ground<'_, M> {
     Ground {
         history: session.timeline(),
         kept: session.kept_modules(),
+        waiting: session.waiting_modules(),
         primitives: session.primitives(),
     }
 }

@@ -48,7 +48,7 @@ pub fn explain<M: Meaning>(
     if !matches!(refusal, Refusal::Check(..) | Refusal::Fails) {
         return explain_with(alloc, ground, command, refusal, None);
     }
-    match ModuleTexts::read(alloc, ground.history, ground.kept, &command.parts, false) {
+    match ModuleTexts::read(alloc, ground, &command.parts) {
         Ok(texts) => explain_with(alloc, ground, command, refusal, Some(&texts)),
         Err(NoMemory) => Err(NoMemory),
     }

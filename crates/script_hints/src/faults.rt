@@ -67,7 +67,7 @@ pub fn faulty_module<M: Meaning>(
     ground: &Ground<'_, M>,
 ) -> Result<Option<Label>, NoMemory> {
     let parts = parts_of(&[]);
-    match ModuleTexts::read(alloc, ground.history, ground.kept, &parts, false) {
+    match ModuleTexts::read(alloc, ground, &parts) {
         Ok(texts) => first_faulty(alloc, ground, &texts, &parts),
         Err(NoMemory) => Err(NoMemory),
     }

@@ -3,10 +3,10 @@
 use crate::explainer::{Explainer, origin_of};
 use crate::variables::{Uses, VariableUse, has_name, variables_of};
 use diagnostic::{Code, Diagnostic, Fill, Origin, Report, Severity, say};
-use hint_text::{Ground, ModuleTexts, Past, ScriptCommand, arity_of, declaring};
+use hint_text::{Ground, Past, ScriptCommand, arity_of, declaring, known_modules, missing_modules};
 use prim_core::Meaning;
 use script_text::{Framing, Keyword as Command};
-use session_history::Timeline;
+use session_history::{ReadModule, Timeline};
 use std::alloc::Global;
 use strategy_syntax::{Definition, Pattern, PatternForm, Place, Strategy, StrategyForm};
 use strategy_tokens::TokenPlace;
@@ -24,26 +24,25 @@ pub fn warn<M: Meaning, R: Report>(
     command: &ScriptCommand<'_>,
     report: &mut R,
 ) -> Result<(), NoMemory> {
-    let (parts, history) = (command.parts, ground.history);
+    let parts = command.parts;
     if !parts.is_module() && (!parts.is_term() || parts.text.len() > LOOKED) {
         return Ok(());
     }
-    match ModuleTexts::read(alloc, history, ground.kept, &parts, true) {
-        Ok(texts) => warn_among(alloc, history, command, &texts, report),
-        Err(NoMemory) => Err(NoMemory),
-    }
+    let missing = missing_modules(alloc, ground)?;
+    warn_among(alloc, ground, command, &missing, report)
 }
 
-fn warn_among<R: Report>(
+fn warn_among<M: Meaning, R: Report>(
     alloc: Global,
-    history: &Timeline,
+    ground: &Ground<'_, M>,
     command: &ScriptCommand<'_>,
-    texts: &ModuleTexts<'_>,
+    missing: &[ReadModule],
     report: &mut R,
 ) -> Result<(), NoMemory> {
-    let modules = texts.all(alloc, &command.parts)?;
+    let modules = known_modules(alloc, ground, missing, &command.parts)?;
     let hint = warning(alloc, "", origin_of(command));
-    let mut explainer = Explainer::new(alloc, hint, command, &modules, history.limits());
+    let limits = ground.history.limits();
+    let mut explainer = Explainer::new(alloc, hint, command, &modules, limits);
     if explainer.parts.is_module() {
         explainer.warn_of_modules(report)
     } else {

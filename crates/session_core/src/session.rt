@@ -14,7 +14,7 @@ ghost use Rattle.session_modules.specs.Kept.{Belong};
 use crate::applying::apply_strategy;
 use crate::preview::{Preview, preview_strategy};
 use prim_core::{Meaning, Primitives};
-use session_history::{CheckedTexts, Limits, ModuleCache, Refusal, Timeline};
+use session_history::{CheckedTexts, Limits, ModuleCache, ReadModule, Refusal, Timeline};
 use std::alloc::Global;
 use std::marker::Model;
 use strategy_check::Program;
@@ -110,6 +110,12 @@ impl<M: Meaning> Session<M> {
         ensures { IfSome result (λ kept. Belong self.now.primitives kept.now) }
     {
         self.cache.last_modules()
+    }
+
+    /// The modules that were read in an open group since the modules were checked last, or some of
+    /// them, each with its text.
+    pub fn waiting_modules(&self) -> &[ReadModule] {
+        self.cache.waiting()
     }
 
     /// The tree of this name, or `None` if there is none.

@@ -16,7 +16,7 @@ mod timeline;
 
 pub use acts::Found;
 pub use limits::Limits;
-pub use session_modules::{CheckedTexts, ModuleCache, Refusal};
+pub use session_modules::{CheckedTexts, ModuleCache, ReadModule, Refusal, read_module};
 pub use timeline::{OpenGroup, Timeline};
 
 /// The most steps of one `undo` or `redo`.

@@ -78,6 +78,13 @@ impl ModuleCache {
         self.kept.as_ref()
     }
 
+    /// The modules that were read in an open group since the last check, or some of them.
+    pub fn waiting(&self) -> &[ReadModule]
+        ensures { result.now ≡ self.now.read.items }
+    {
+        &self.read
+    }
+
     /// The program of the checked modules.
     pub fn program(&self) -> &Program
         requires { IsSome self.now.kept }

@@ -41,10 +41,18 @@ impl Model for ReadModule {
 
 impl ReadModule {
     /// Whether it is a module of this name, read from this text.
-    pub(crate) fn is(&self, name: &Label, text: &[u8]) -> bool
+    pub fn is(&self, name: &Label, text: &[u8]) -> bool
         ensures { result ≡ true → self.now.0 ≡ text.now × self.now.1.0 ≡ name.now }
     {
         self.named.name().bytes() == name.bytes() && self.text.bytes() == text
+    }
+
+    /// The named module.
+    pub fn named(&self) -> &NamedModule
+        ensures value { result.now ≡ self.now.1 }
+        ensures reads { ReadsAsModule self.now.0 (Ok result.now.1) }
+    {
+        &self.named
     }
 
     /// The text, and the named module.
