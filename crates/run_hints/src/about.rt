@@ -2,7 +2,7 @@
 //! definitions.
 
 use crate::finding::{Node, Part, is_around};
-use crate::observing::Called;
+use crate::stands::Called;
 use diagnostic::{DEEPEST, Spot};
 use hint_text::{bytes_at, token_of};
 use session_history::CheckedTexts;

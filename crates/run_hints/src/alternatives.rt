@@ -3,7 +3,7 @@
 use crate::about::{About, Body, StrategyPlace};
 use crate::finding::Part;
 use crate::matching::{Compared, Miss, are_alike, compare, matched, may_match, part_after};
-use crate::observing::Called;
+use crate::stands::Called;
 use crate::telling::{Teller, kind_of};
 use diagnostic::{DEEPEST, Fill, say};
 use strategy_syntax::{Pattern, PatternForm, ResolvedForm as Form, StrategyForm as Named};

@@ -3,7 +3,8 @@
 ghost use Rattle.std.specs.Prelude.{◌≡◌, IfOk};
 
 use crate::about::About;
-use crate::observing::{Observer, RunRecord, Wanted};
+use crate::observing::Observer;
+use crate::record::{RunRecord, Wanted};
 use crate::spending::sum;
 use crate::telling::Teller;
 use diagnostic::{Code, Diagnostic, Fill, Origin, Severity, say};

@@ -4,7 +4,7 @@ use crate::about::{StrategyPlace, split_bodies};
 use crate::alternatives::alternatives;
 use crate::finding::{is_same, is_search};
 use crate::matching::{matched, may_match};
-use crate::observing::{Bound, Stand};
+use crate::stands::{Bound, Stand};
 use crate::telling::{Teller, kind_of};
 use diagnostic::{Fill, say};
 use strategy_syntax::{Pattern, Place, Strategy, StrategyForm};

@@ -1,7 +1,7 @@
 //! Where the steps of a run went.
 
 use crate::matching::matched;
-use crate::observing::RunRecord;
+use crate::record::RunRecord;
 use crate::telling::Teller;
 use diagnostic::{Fill, say};
 use term_core::NoMemory;

@@ -1,7 +1,7 @@
 //! Sentences about a run, with strategies, terms and places in them.
 
 use crate::about::{About, Body, has_call};
-use crate::observing::{Called, Stand};
+use crate::stands::{Called, Stand};
 use diagnostic::{Diagnostic, Fill, say};
 use strategy_machine::Spot;
 use strategy_syntax::Head;
