@@ -1,13 +1,17 @@
 //! The characters and lines of a text in UTF-8. In other bytes each begins a character, but for
 //! those from 128 to 191.
 
+ghost use Rattle.std.specs.Prelude.{◌≡◌, ◌≤◌, ◌-◌, length, take, drop};
+
 // Whether a character begins with the byte, in UTF-8.
 fn begins_character(byte: u8) -> bool {
     byte & 0xc0 != 0x80
 }
 
 /// The number of characters.
-pub fn count_characters(text: &[u8]) -> u64 {
+pub fn count_characters(text: &[u8]) -> u64
+    ensures { result ≤ length text.now }
+{
     let mut count = 0u64;
     for byte in text {
         if begins_character(*byte) {
@@ -18,31 +22,41 @@ pub fn count_characters(text: &[u8]) -> u64 {
 }
 
 // The number of bytes at the start that belong to a character that began before.
-fn inside_character(text: &[u8]) -> usize {
+fn inside_character(text: &[u8]) -> usize
+    ensures { result ≤ length text.now }
+{
     let begins = |byte: &u8| begins_character(*byte);
     text.iter().position(begins).unwrap_or(text.len())
 }
 
 /// So many bytes at the end, less those of a character that began before.
-pub fn last_characters(text: &[u8], most: usize) -> &[u8] {
+pub fn last_characters(text: &[u8], most: usize) -> &[u8]
+    ensures most { length result.now ≤ most }
+    ensures end { result.now ≡ drop (length text.now - length result.now) text.now }
+{
     let cut = text.get(text.len().saturating_sub(most)..).unwrap_or(text);
     cut.get(inside_character(cut)..).unwrap_or(cut)
 }
 
 /// So many bytes at the start, less those of a character that goes on.
-pub fn first_characters(text: &[u8], most: usize) -> &[u8] {
-    let mut kept = most.min(text.len());
-    for _ in 0..most {
-        match text.get(kept) {
-            Some(byte) if !begins_character(*byte) => kept = kept.saturating_sub(1),
-            _ => break,
+pub fn first_characters(text: &[u8], most: usize) -> &[u8]
+    ensures most { length result.now ≤ most }
+    ensures start { result.now ≡ take (length result.now) text.now }
+{
+    let cut = text.get(..most).unwrap_or(text);
+    match text.get(cut.len()) {
+        Some(byte) if !begins_character(*byte) => {
+            let last = cut.iter().rposition(|byte| begins_character(*byte));
+            cut.get(..last.unwrap_or(0)).unwrap_or(cut)
         }
+        _ => cut,
     }
-    text.get(..kept).unwrap_or(text)
 }
 
 /// The character at the place, in UTF-8.
-pub fn character_at(text: &[u8], at: usize) -> &[u8] {
+pub fn character_at(text: &[u8], at: usize) -> &[u8]
+    ensures { result.now ≡ take (length result.now) (drop at text.now) }
+{
     let rest = text.get(at..).unwrap_or(&[]);
     let more = match rest {
         [] => return &[],
@@ -61,20 +75,29 @@ pub struct TextPlace<'a> {
 }
 
 /// The place after so many bytes of a text whose first line has this number.
-pub fn place_of(text: &[u8], first: u64, at: usize) -> TextPlace<'_> {
+pub fn place_of(text: &[u8], first: u64, at: usize) -> TextPlace<'_>
+    ensures line { first ≤ result.line }
+    ensures before { result.before.now
+        ≡ drop (length (take at text.now) - length result.before.now) (take at text.now) }
+    ensures after { result.after.now ≡ take (length result.after.now) (drop at text.now) }
+{
     let (before, after) = text.split_at(at.min(text.len()));
     let mut line = first;
-    let mut start = 0;
-    for (number, byte) in before.iter().enumerate() {
+    for byte in before {
         if *byte == b'\n' {
             line = line.saturating_add(1);
-            start = number.saturating_add(1);
         }
     }
+    let ends_line = |byte: &u8| *byte == b'\n';
+    let start = before
+        .iter()
+        .rposition(ends_line)
+        .map_or(0, |it| it.saturating_add(1));
+    let end = after.iter().position(ends_line).unwrap_or(after.len());
     TextPlace {
         line,
-        before: before.get(start..).unwrap_or(&[]),
-        after: after.split(|byte| *byte == b'\n').next().unwrap_or(after),
+        before: before.get(start..).unwrap_or(before),
+        after: after.get(..end).unwrap_or(after),
     }
 }
 

@@ -1,6 +1,6 @@
 //! What is said of a command, as data.
 
-ghost use Rattle.std.specs.Prelude.{◌≡◌};
+ghost use Rattle.std.specs.Prelude.{◌≡◌, true, codes, IfErr};
 
 use crate::span::{Source, Span, Spot};
 use std::alloc::Global;
@@ -19,7 +19,11 @@ pub enum Severity {
 
 impl Severity {
     /// Its word.
-    pub fn word(self) -> &'static str {
+    pub fn word(self) -> &'static str
+        ensures refusal { self ≡ Severity.Refusal → result.now ≡ codes "refusal" }
+        ensures warning { self ≡ Severity.Warning → result.now ≡ codes "warning" }
+        ensures profile { self ≡ Severity.Profile → result.now ≡ codes "profile" }
+    {
         match self {
             Severity::Refusal => "refusal",
             Severity::Warning => "warning",
@@ -167,7 +171,10 @@ impl Drop for Diagnostic {
 
 impl Diagnostic {
     /// One that says nothing yet of a command that stands there. What is written first is its message.
-    pub fn new(alloc: Global, severity: Severity, code: Code, origin: Origin<'_>) -> Diagnostic {
+    pub fn new(alloc: Global, severity: Severity, code: Code, origin: Origin<'_>) -> Diagnostic
+        ensures severity { result.severity ≡ severity }
+        ensures code { result.code ≡ code }
+    {
         let mut new = Diagnostic {
             severity,
             code,
@@ -200,12 +207,17 @@ impl Diagnostic {
     }
 
     /// Whether a growth of memory was refused, so that it isn't whole.
-    pub fn is_broken(&self) -> bool {
+    pub fn is_broken(&self) -> bool
+        ensures { result ≡ self.now.refused }
+    {
         self.refused
     }
 
     /// Keeps in mind whether something was refused.
-    pub fn keep(&mut self, outcome: Result<(), NoMemory>) {
+    pub fn keep(&mut self, outcome: Result<(), NoMemory>)
+        ensures refused { IfErr outcome (λ e. self.new.refused ≡ true) }
+        ensures earlier { self.old.refused ≡ true → self.new.refused ≡ true }
+    {
         self.refused |= outcome.is_err();
     }
 
@@ -301,7 +313,9 @@ impl Diagnostic {
         self.kept.get(kept.start..kept.end).unwrap_or(&[])
     }
 
-    pub(crate) fn begin(&mut self, kind: LineKind) {
+    pub(crate) fn begin(&mut self, kind: LineKind)
+        ensures { (self.new.severity ≡ self.old.severity) × (self.new.code ≡ self.old.code) }
+    {
         let line = Line {
             kind,
             start: self.text.len(),
@@ -339,7 +353,9 @@ impl Diagnostic {
         self.refused |= self.labels.push(Label { place, said }).is_err();
     }
 
-    pub(crate) fn keep_bytes(&mut self, bytes: &[u8]) -> Kept {
+    pub(crate) fn keep_bytes(&mut self, bytes: &[u8]) -> Kept
+        ensures { (self.new.severity ≡ self.old.severity) × (self.new.code ≡ self.old.code) }
+    {
         let start = self.kept.len();
         self.refused |= self.kept.extend_from_slice(bytes).is_err();
         Kept {
