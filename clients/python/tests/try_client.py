@@ -13,6 +13,7 @@ import tempfile
 from stratbench import Ended, Refused, Stratbench
 from stratbench.parts import in_parts
 from stratbench.terms import LIST, TUPLE, Term, items, read, write
+from stratbench.versions import Misfit
 
 # Calls that are refused: the name of the method, its arguments, what the refusal says, and the place.
 REFUSED = [
@@ -202,6 +203,16 @@ def ends():
             yield "no program", "it began"
         except FileNotFoundError:
             yield "no program", ""
+        other = f"{room}/other"
+        with open(other, "w") as it:
+            it.write("#!/bin/sh\necho stratbench 2.0.0\n")
+        os.chmod(other, 0o755)
+        try:
+            Stratbench(program=other)
+            yield "a program of another version", "it began"
+        except Misfit as why:
+            fits = str(why) == f"{other}: it is version 2.0.0, and this client is for versions from 1.2.0 to below 2.0.0"
+            yield "a program of another version", "" if fits else str(why)
         bench = Stratbench(options=["--write", f"t={room}/out", "--write", f"u={room}/none"])
         bench.tree("t", "f(1)")
         status = bench.close()
@@ -266,7 +277,7 @@ def stops():
 
 def tests(top, everything):
     # those of the other modules are run by tools/examples
-    for name in ("places", "parts", "strategies", "refactor.needs", "refactor.report", "refactor.writing", "shell.completion", "shell.lines", "shell.syntax", "shell.view"):
+    for name in ("places", "parts", "strategies", "refactor.needs", "refactor.report", "refactor.writing", "shell.completion", "shell.lines", "shell.syntax", "shell.view", "versions"):
         found = doctest.testmod(importlib.import_module(f"stratbench.{name}"))
         yield f"the examples of {name}", "" if found.attempted and not found.failed else f"{found}"
     yield from explained()

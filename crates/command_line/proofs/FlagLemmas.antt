@@ -18,7 +18,7 @@ use Rattle.clap.specs.Facts.{explicit_source}
 use Rattle.clap.specs.Lexer.{long_of, short_of}
 use Rattle.clap.specs.Walk.{has_row, one_of, row_text, has_long, has_short, is_multiple, reading_by, values_or_missing, Held, Names, Outcome, Step, Waiting, Walk, after_flag, after_step, arg_by_id, arg_by_index, arg_by_long, arg_by_short, attached_value, bundle_met, bundle_step, done, flag_met, idle, is_pending, long_met, long_or_other, long_word, next, nothing_held, option, option_met, option_word, plain, plain_word, positional, positional_held, pushed, reacted, refused, settled, settled_rows, short_met, short_or_plain, started, subcommand, subcommand_met, subcommand_or_other, takes_several, takes_values, to_positional, trailing, used_by_id, value, waits, walk, walk_from, walked, walked_from, with_default, default_rows, word_met, Row, Rule, Text, at_row, more_values, used, with_values, without}
 
-abbrev rules : List Rule
+abbrev pub rules : List Rule
 rules = (built line).top.rules
 
 -- a flag of this name, which may have a short one, as it is built
@@ -31,7 +31,7 @@ files_rule name = with_index 1 (filled (files_option name))
 abbrev steps_rule : Rule
 steps_rule = with_index 1 (filled steps_option)
 
-abbrev max_steps_rule : Rule
+abbrev pub max_steps_rule : Rule
 max_steps_rule = with_index 1 (filled max_steps_option)
 
 abbrev max_terms_rule : Rule

@@ -1,3 +1,4 @@
 pub mod FlagLemmas
 pub mod LineRows
 pub mod NamedLemmas
+pub mod NumberLemmas

@@ -1,10 +1,12 @@
 -- Values of the form NAME=FILE.
-use Rattle.std.proofs.Common.{◌≡◌, ◌≤◌, ◌<◌, ◌+◌, ap₂, ℕ, zero, suc, Bool, true, false, not, ◌&&◌, ◌||◌, cond, List, [], ◌∷◌, ◌++◌, length, take, get_or, map, is_some, Some, None, inl, inr, Ok, Err, IfErr, Result, refl, sym, ap, subst, ◌∙◌, arith}
+use Rattle.std.proofs.Common.{◌≡◌, ◌≤◌, ◌<◌, ◌+◌, ap₂, ℕ, zero, suc, Bool, true, false, not, ◌&&◌, ◌||◌, cond, List, [], ◌∷◌, ◌++◌, length, take, get_or, map, is_some, Some, None, inl, inr, Ok, Err, IfErr, Result, refl, sym, ap, subst, ◌∙◌, arith, nat_lt}
 use Rattle.std.specs.Prelude.{unwrap_or, option_map, if◌then◌else◌}
 use Rattle.std.specs.declared.option.Option.{Option}
 use Rattle.std.specs.List.{list_all, list_any, before_first, position_or_len}
 use Rattle.std.specs.Borrow.{Bor}
 use Rattle.std.specs.Result.{IsErrAnd}
+use Rattle.std.proofs.Math.Bool.{and-false}
+use Rattle.std.proofs.lemmas.Bool.{le-ltb, lt-ltb}
 use Rattle.std.proofs.lemmas.List.{map-append, take_more}
 use Rattle.std.proofs.lemmas.List.Folds.{list_all-append}
 use Rattle.term_core.specs.Word.{label_of}
@@ -18,7 +20,7 @@ use Rattle.command_line.specs.declared.named.Load.{Load}
 use Rattle.command_line.specs.declared.named.Load.TheVariants.{Module, Tree}
 use Rattle.command_line.specs.declared.named.Untaken.{Untaken}
 use Rattle.command_line.specs.declared.named.Untaken.TheVariants.{Malformed, Memory}
-use Rattle.command_line.specs.Line.{are_named_all, as_given, given, is_equals, is_named, line, line_fault, modules_of, trees_of}
+use Rattle.command_line.specs.Line.{are_named_all, are_taken, as_given, budget_of, given, is_equals, is_named, line, line_fault, modules_of, most_steps_of, trees_of}
 use Rattle.command_line.specs.inside.Malformed.{IfMalformed}
 
 none_equals : (text : Text) → position_or_len is_equals text ≡ length text → list_any is_equals text ≡ false
@@ -163,15 +165,30 @@ fault_comes app words e is (inl memory) = inl memory
 fault_comes app words e is (inr among) =
     inr (among_or_else (kind_of e) (fault_of line words) _ (subst (λ (a : App). IsAmong (kind_of e) (fault_of a words)) is among))
 
-pub no_fault : (words : List Text) → fault_of line words ≡ [] → are_named_all (given words) ≡ true → line_fault words ≡ []
-no_fault words none named =
-    ap (λ (ks : Kinds). or_else ks (if are_named_all (given words) then [] else ValueValidation ∷ [])) none
-    ∙ ap (λ (b : Bool). if b then [] else ValueValidation ∷ []) named
+pub no_fault : (words : List Text) → fault_of line words ≡ [] → are_taken (given words) ≡ true → line_fault words ≡ []
+no_fault words none taken =
+    ap (λ (ks : Kinds). or_else ks (if are_taken (given words) then [] else ValueValidation ∷ [])) none
+    ∙ ap (λ (b : Bool). if b then [] else ValueValidation ∷ []) taken
 
-pub malformed_fault : (words : List Text) (e : Error) → fault_of line words ≡ [] → are_named_all (given words) ≡ false → kind_of e ≡ ValueValidation → HasKind (line_fault words) e
-malformed_fault words e none malformed kind =
-    inr (subst (IsAmong (kind_of e)) (sym (ap (λ (ks : Kinds). or_else ks (if are_named_all (given words) then [] else ValueValidation ∷ [])) none
-    ∙ ap (λ (b : Bool). if b then [] else ValueValidation ∷ []) malformed)) (inl kind))
+pub untaken_fault : (words : List Text) (e : Error) → fault_of line words ≡ [] → are_taken (given words) ≡ false → kind_of e ≡ ValueValidation → HasKind (line_fault words) e
+untaken_fault words e none untaken kind =
+    inr (subst (IsAmong (kind_of e)) (sym (ap (λ (ks : Kinds). or_else ks (if are_taken (given words) then [] else ValueValidation ∷ [])) none
+    ∙ ap (λ (b : Bool). if b then [] else ValueValidation ∷ []) untaken)) (inl kind))
+
+-- the numbers of a line, and whether its files have names, say whether it is taken
+pub is_taken : (words : List Text) (budget most : ℕ) → budget ≡ budget_of (given words) → most ≡ most_steps_of (given words) → budget ≤ most
+    → are_named_all (given words) ≡ true → are_taken (given words) ≡ true
+is_taken words budget most b m fits named =
+    ap₂ (λ (x y : Bool). not x && y) (ap₂ nat_lt (sym m) (sym b) ∙ le-ltb most budget fits) named
+
+pub is_beyond : (words : List Text) (budget most : ℕ) → budget ≡ budget_of (given words) → most ≡ most_steps_of (given words) → most < budget
+    → are_taken (given words) ≡ false
+is_beyond words budget most b m more =
+    ap (λ (x : Bool). not x && are_named_all (given words)) (ap₂ nat_lt (sym m) (sym b) ∙ lt-ltb most budget more)
+
+pub is_malformed : (words : List Text) → are_named_all (given words) ≡ false → are_taken (given words) ≡ false
+is_malformed words malformed = ap (λ (y : Bool). not (nat_lt (most_steps_of (given words)) (budget_of (given words))) && y) malformed
+    ∙ and-false (not (nat_lt (most_steps_of (given words)) (budget_of (given words))))
 
 -- ---- what `?` returns
 

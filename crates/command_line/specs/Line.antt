@@ -1,10 +1,12 @@
 -- The command line, in the terms of `clap`: flags, options with a number, options that name files and
 -- can be given again, and the name of a file.
-use Rattle.std.specs.Prelude.{◌≡◌, ◌≤◌, ◌&&◌, ◌==◌, ℕ, Bool, true, List, [], ◌∷◌, ◌++◌, codes, fold, pos, Some, is_some, unwrap_or, if◌then◌else◌}
+use Rattle.std.specs.Prelude.{◌&&◌, ◌==◌, ℕ, Bool, true, List, [], ◌∷◌, ◌++◌, Option, codes, fold, length, nat_lt, not, pos, None, Some, is_some, unwrap_or, if◌then◌else◌}
 use Rattle.std.specs.List.{list_all, list_any, before_first}
-use Rattle.std.specs.Str.Parse.{IsNumeral, digits_value, without_leading_plus}
+use Rattle.std.specs.Char.{digit_value}
+use Rattle.std.specs.Str.Parse.{digits_value, without_leading_plus}
 use Rattle.term_core.specs.Word.{label_of}
 use Rattle.clap.specs.Words.{App, Kinds, Row, Rule, Text, all_of, fault_of, matches_of, new_app, new_rule, with_rule}
+use Rattle.clap.specs.Walk.{one_of}
 use Rattle.clap.specs.Simple.{on_top}
 use Rattle.clap.specs.Kinds.{or_else}
 use Rattle.clap.specs.declared.builder.action.ArgAction.TheVariants.{Append, SetTrue}
@@ -62,11 +64,28 @@ line = fold with_rule named_app
 abbrev pub given : List Text → List Row
 given words = matches_of line words
 
--- n is the number that a text spells, if that is in this range
-abbrev pub IsNumberIn : ℕ → ℕ → List ℕ → ℕ → Type 0
-IsNumberIn least most text n =
+-- one digit or more, after a `+` or without, spell a number in this range
+abbrev pub is_number_in : ℕ → ℕ → Text → Bool
+is_number_in least most text =
     let digits = without_leading_plus text in
-    IsNumeral 10 digits → least ≤ digits_value 10 digits → digits_value 10 digits ≤ most → n ≡ digits_value 10 digits
+    (nat_lt 0 (length digits) && list_all (λ d. nat_lt (digit_value d) 10) digits)
+    && (not (nat_lt (digits_value 10 digits) least) && not (nat_lt most (digits_value 10 digits)))
+
+-- the number that a text spells, if there is one in this range, or else the usual one
+abbrev pub number_in : ℕ → ℕ → ℕ → Option Text → ℕ
+number_in least most usual None = usual
+number_in least most usual (Some text) =
+    if is_number_in least most text then digits_value 10 (without_leading_plus text) else usual
+
+-- the numbers of the words for the options
+abbrev pub budget_of : List Row → ℕ
+budget_of rows = number_in 1 4000000000 100000 (one_of (codes "steps") rows)
+
+abbrev pub most_steps_of : List Row → ℕ
+most_steps_of rows = number_in 1000000 4000000000 1000000 (one_of (codes "max-steps") rows)
+
+abbrev pub most_terms_of : List Row → ℕ
+most_terms_of rows = number_in 100000 1000000000 100000 (one_of (codes "max-terms") rows)
 
 -- ---- NAME=FILE
 
@@ -112,9 +131,13 @@ abbrev pub are_named_all : List Row → Bool
 are_named_all rows = (are_named (codes "module") rows && are_named (codes "tree") rows)
     && are_named (codes "write") rows
 
--- Why words are refused: as `clap` finds it; or where it finds nothing, since the value of an option
--- isn't NAME=FILE.
+-- no budget is greater than the greatest, and files have names
+abbrev pub are_taken : List Row → Bool
+are_taken rows = not (nat_lt (most_steps_of rows) (budget_of rows)) && are_named_all rows
+
+-- Why words are refused: as `clap` finds it; or where it finds nothing, since the budget is greater
+-- than the greatest, or the value of an option isn't NAME=FILE.
 abbrev pub line_fault : List Text → Kinds
 line_fault words =
     or_else (fault_of line words)
-    (if are_named_all (given words) then [] else ValueValidation ∷ [])
+    (if are_taken (given words) then [] else ValueValidation ∷ [])

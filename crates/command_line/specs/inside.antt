@@ -1,1 +1,2 @@
 pub mod Malformed
+pub mod Numbers

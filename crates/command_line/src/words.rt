@@ -1,15 +1,18 @@
 //! The words of the command line, read by `clap`.
 
-ghost use Rattle.std.specs.Prelude.{◌≡◌, ◌≤◌, ◌||◌, ℕ, List, IfOk, IfErr, Some, true, false, codes, map, option_map, if◌then◌else◌};
-ghost use Rattle.clap.specs.Words.{FailsBy, app_of, first_of, found_of, kind_of, one_of, one_text, rows_of, rule_of};
+ghost use Rattle.std.specs.Prelude.{◌≡◌, ◌≤◌, ◌||◌, ℕ, List, IfOk, IfErr, None, Some, true, false, codes, map, option_map, if◌then◌else◌};
+ghost use Rattle.std.specs.Str.Parse.{digits_value, without_leading_plus};
+ghost use Rattle.clap.specs.Words.{FailsBy, app_of, first_of, found_of, kind_of, one_text, rows_of, rule_of};
 ghost use Rattle.clap.specs.Takes.{is_given};
 ghost use Rattle.script_text.specs.declared.framing.Framing.TheVariants.{Continued, Lines};
 ghost use Rattle.term_core.specs.declared.TheConstants.{MAX_ROOM, MAX_SIZE};
 ghost use Rattle.session_history.specs.declared.TheConstants.{MAX_BUDGET, MOST_STEPS};
 ghost use Rattle.clap.specs.declared.error.kind.ErrorKind.TheVariants.{ValueValidation};
-ghost use Rattle.command_line.specs.Line.{IsNumberIn, are_named_all, as_given, file_name, files_option, flag_of, given, interactive_flag, line, line_fault, max_steps_option, max_terms_option, modules_of, steps_option, trees_of, values};
+ghost use Rattle.command_line.specs.Line.{are_named_all, as_given, budget_of, file_name, files_option, flag_of, given, interactive_flag, line, line_fault, max_steps_option, max_terms_option, modules_of, most_steps_of, most_terms_of, steps_option, trees_of, values};
 ghost use Rattle.command_line.specs.inside.Malformed.{IfMalformed};
+ghost use Rattle.command_line.specs.inside.Numbers.{Spells};
 
+use crate::escaped::Escaped;
 use crate::named::{Load, Named, Untaken, in_order, read_all};
 use clap::error::ErrorKind;
 use clap::{Arg, ArgAction, ArgMatches, Command, Error, value_parser};
@@ -22,8 +25,9 @@ use term_core::{MAX_ROOM, MAX_SIZE};
 /// The budget of a command that names none, if the command line names none either.
 pub const DEFAULT_BUDGET: u32 = 100_000;
 
-/// The version of the program.
-pub const VERSION: &str = "1.2.0";
+/// The version of the program. `tools/package` writes over what is in brackets, to the byte: of which
+/// commit the program is, and whether it is proved.
+pub const VERSION: &str = "1.2.0 (commit ------------, not stated)";
 
 // Examples of use, for the end of the help text.
 const EXAMPLES: &str = "Examples:
@@ -104,21 +108,20 @@ impl CommandLine<'_> {
 ///
 /// Errors: those of `clap`, which include a request for the help text and want of memory.
 pub fn arguments<'a, S: AsStr>(alloc: Global, words: &'a [S]) -> Result<CommandLine<'a>, Error>
-    ensures budget { IfOk result (λ arguments. (1 ≤ arguments.budget) × (arguments.budget ≤ MOST_STEPS)) }
+    ensures budget { IfOk result (λ arguments. (1 ≤ arguments.budget) × (arguments.budget ≤ arguments.max_steps)) }
     ensures most { IfOk result (λ arguments. (MAX_BUDGET ≤ arguments.max_steps) × (arguments.max_steps ≤ MOST_STEPS)) }
     ensures room { IfOk result (λ arguments. arguments.max_terms ≤ MAX_ROOM) }
     ensures least_room { IfOk result (λ arguments. MAX_SIZE ≤ arguments.max_terms) }
 
     // What `clap` finds in the words for this command line, by the names of its arguments.
-    ensures number { IfOk result (λ arguments. (text : List ℕ)
-        → one_of (codes "steps") (given (map S.text words.now)) ≡ Some text
-        → IsNumberIn 1 MOST_STEPS text arguments.budget) }
-    ensures max_steps { IfOk result (λ arguments. (text : List ℕ)
-        → one_of (codes "max-steps") (given (map S.text words.now)) ≡ Some text
-        → IsNumberIn MAX_BUDGET MOST_STEPS text arguments.max_steps) }
-    ensures max_terms { IfOk result (λ arguments. (text : List ℕ)
-        → one_of (codes "max-terms") (given (map S.text words.now)) ≡ Some text
-        → IsNumberIn MAX_SIZE MAX_ROOM text arguments.max_terms) }
+    ensures number { IfOk result (λ arguments. arguments.budget
+        ≡ budget_of (given (map S.text words.now))) }
+    ensures max_steps { IfOk result (λ arguments. arguments.max_steps
+        ≡ most_steps_of (given (map S.text words.now))) }
+    ensures usual { IfOk result (λ arguments. is_given (codes "max-steps") (given (map S.text words.now)) ≡ false
+        → arguments.max_steps ≡ MAX_BUDGET) }
+    ensures max_terms { IfOk result (λ arguments. arguments.max_terms
+        ≡ most_terms_of (given (map S.text words.now))) }
     ensures file { IfOk result (λ arguments. option_map (λ name. name.now) arguments.file
         ≡ first_of (codes "file") (given (map S.text words.now))) }
     ensures library { IfOk result (λ arguments. arguments.library
@@ -148,17 +151,22 @@ pub fn arguments<'a, S: AsStr>(alloc: Global, words: &'a [S]) -> Result<CommandL
     ensures writes { IfOk result (λ arguments. map as_given arguments.writes.items
         ≡ values (codes "write") (given (map S.text words.now))) }
 
-    // Words are refused for the reason that `clap` finds, for a value that isn't NAME=FILE, or for
-    // want of memory, and accepted only if there is no such reason.
+    // Words are refused for the reason that `clap` finds, for a budget greater than the greatest, for a
+    // value that isn't NAME=FILE, or for want of memory, and accepted only if there is no such reason.
     ensures refused { FailsBy (line_fault (map S.text words.now)) result }
 {
     let mut command = command(alloc)?;
     let matches = command.try_get_matches_from_mut(words)?;
+    let budget = number_of(&matches, "steps", 1, MOST_STEPS, DEFAULT_BUDGET);
+    let max_steps = number_of(&matches, "max-steps", MAX_BUDGET, MOST_STEPS, MAX_BUDGET);
+    if budget > max_steps {
+        return Err(beyond(alloc, &mut command, budget, max_steps)?);
+    }
     match read_files(alloc, &matches) {
         Ok((loads, writes)) => Ok(CommandLine {
             library: matches.get_flag("library"),
-            budget: number_of(&matches, "steps", 1, MOST_STEPS, DEFAULT_BUDGET),
-            max_steps: number_of(&matches, "max-steps", MAX_BUDGET, MOST_STEPS, MAX_BUDGET),
+            budget,
+            max_steps,
             max_terms: number_of(&matches, "max-terms", MAX_SIZE, MAX_ROOM, MAX_SIZE),
             stop: matches.get_flag("stop"),
             lines: matches.get_flag("lines"),
@@ -205,6 +213,22 @@ fn read_files<'a>(
     Ok((loads, writes))
 }
 
+// Why a budget isn't taken.
+fn beyond(
+    alloc: Global,
+    command: &mut Command<'_>,
+    budget: u32,
+    most: u32,
+) -> Result<Error, AllocError>
+    ensures { IfOk result (λ error. kind_of error ≡ ValueValidation) }
+{
+    let message = format!(in alloc;
+        "invalid value '{budget}' for '--steps <N>': the greatest budget is {most} (--max-steps raises it)"
+    )?;
+    command.error(ErrorKind::ValueValidation, &message)
+}
+
+// Why a value isn't taken.
 fn malformed(
     alloc: Global,
     command: &mut Command<'_>,
@@ -213,6 +237,7 @@ fn malformed(
 ) -> Result<Error, AllocError>
     ensures { IfOk result (λ error. kind_of error ≡ ValueValidation) }
 {
+    let value = Escaped(value);
     let message = format!(in alloc;
         "invalid value '{value}' for '--{option} <NAME=FILE>': it has to be a name, '=' and a file"
     )?;
@@ -371,8 +396,11 @@ fn file_name<'a>(alloc: Global) -> Arg<'a>
 fn number_of(matches: &ArgMatches<'_>, option: &str, least: u32, most: u32, usual: u32) -> u32
     requires { (least ≤ usual) × (usual ≤ most) }
     ensures within { (least ≤ result) × (result ≤ most) }
-    ensures number { (text : List ℕ) → one_text (found_of matches.now) option.now ≡ Some text
-        → IsNumberIn least most text result }
+    ensures none { one_text (found_of matches.now) option.now ≡ None → result ≡ usual }
+    ensures read { (text : List ℕ) → one_text (found_of matches.now) option.now ≡ Some text
+        → Spells least most text → result ≡ digits_value 10 (without_leading_plus text) }
+    ensures other { (text : List ℕ) → one_text (found_of matches.now) option.now ≡ Some text
+        → (Spells least most text → ⊥) → result ≡ usual }
 {
     match matches.get_one::<u32>(option) {
         Some(number) if number >= least && number <= most => number,

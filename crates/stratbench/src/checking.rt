@@ -1,15 +1,16 @@
 //! Modules that are only looked at.
 
-use crate::explaining::Shown;
-use crate::loading::read_file;
+use crate::explaining::{Shown, shown_name};
+use crate::loading::{FromFile, with_fault};
+use crate::reading::{limit_of, read_file, read_whole};
 use crate::status::{FileFault, file_status};
-use command_line::{CommandLine, Load};
+use command_line::{CommandLine, Escaped, Load};
 use hint_text::split_word;
-use observing::{LoadedText, Observer, faulty_module};
+use observing::{LoadedText, Observer};
 use prim_core::Meaning;
 use session_core::{Refusal, Session};
 use session_loading::load_module;
-use std::io::{ErrorKind, Read, Write};
+use std::io::Write;
 use term_core::{Label, NoMemory};
 
 // What standard input is called, and a module whose text doesn't begin with its name.
@@ -17,20 +18,26 @@ const INPUT: &str = "standard input";
 
 const NAMELESS: &[u8] = b"text";
 
-// The text of a module, and the file that it is from.
+// The text of a module, and the file that it is from, as messages name it.
 #[derive(Drop)]
-struct LookedAt<'a> {
+struct LookedAt {
     name: Label,
-    file: &'a str,
+    file: String,
     text: Vec<u8>,
 }
 
-impl LookedAt<'_> {
+impl FromFile for LookedAt {
+    fn name(&self) -> &Label {
+        &self.name
+    }
+}
+
+impl LookedAt {
     fn as_loaded(&self) -> LoadedText<'_> {
         LoadedText {
             word: "module",
             name: self.name.bytes(),
-            file: self.file,
+            file: &self.file,
             text: &self.text,
         }
     }
@@ -57,9 +64,12 @@ pub fn check_modules<M: Meaning>(
         Err(unread) => {
             let _ = match &unread.fault {
                 FileFault::Read(error) => {
-                    eprintln!(rt; "stratbench: read fault: {}\n    {error}", unread.file)
+                    eprintln!(rt;
+                        "stratbench: read fault: {}\n    {error}",
+                        Escaped(unread.file)
+                    )
                 }
-                _ => eprintln!(rt; "stratbench: no memory: {}", unread.file),
+                _ => eprintln!(rt; "stratbench: no memory: {}", Escaped(unread.file)),
             };
             file_status(&unread.fault)
         }
@@ -69,11 +79,11 @@ pub fn check_modules<M: Meaning>(
 fn read_modules<'a>(
     rt: &HostRuntime,
     line: &'a CommandLine<'_>,
-) -> Result<Vec<LookedAt<'a>>, Unread<'a>> {
+) -> Result<Vec<LookedAt>, Unread<'a>> {
     let mut texts = Vec::new(rt.alloc());
     for load in &line.loads {
         if let Load::Module(named) = load {
-            let looked = looked_at(rt, named.file, Some(&named.name));
+            let looked = looked_at(rt, line, named.file, Some(&named.name));
             push(&mut texts, named.file, looked)?;
         }
     }
@@ -82,15 +92,15 @@ fn read_modules<'a>(
         None | Some("-") => INPUT,
         Some(file) => file,
     };
-    let looked = looked_at(rt, file, None);
+    let looked = looked_at(rt, line, file, None);
     push(&mut texts, file, looked)?;
     Ok(texts)
 }
 
 fn push<'a>(
-    texts: &mut Vec<LookedAt<'a>>,
+    texts: &mut Vec<LookedAt>,
     file: &'a str,
-    looked: Result<LookedAt<'a>, FileFault>,
+    looked: Result<LookedAt, FileFault>,
 ) -> Result<(), Unread<'a>> {
     match looked {
         Ok(looked) => match texts.push(looked) {
@@ -105,23 +115,25 @@ fn push<'a>(
 }
 
 // The text of a file, or of standard input, as the module of this name, or else of its own.
-fn looked_at<'a>(
+fn looked_at(
     rt: &HostRuntime,
-    file: &'a str,
+    line: &CommandLine<'_>,
+    file: &str,
     name: Option<&Label>,
-) -> Result<LookedAt<'a>, FileFault> {
+) -> Result<LookedAt, FileFault> {
+    let limit = limit_of(line.max_terms);
     let text = if file == INPUT {
-        read_input(rt)?
+        read_whole(rt.alloc(), rt.stdin(), limit)?
     } else {
-        read_file(rt, file)?
+        read_file(rt, file, limit)?
     };
     let named = match name {
         Some(name) => name.try_clone(),
         None => own_name(rt, &text),
     };
-    match named {
-        Ok(name) => Ok(LookedAt { name, file, text }),
-        Err(NoMemory) => Err(FileFault::Memory),
+    match (named, shown_name(rt.alloc(), line, file)) {
+        (Ok(name), Ok(file)) => Ok(LookedAt { name, file, text }),
+        _ => Err(FileFault::Memory),
     }
 }
 
@@ -143,20 +155,11 @@ fn own_name(rt: &HostRuntime, text: &[u8]) -> Result<Label, NoMemory> {
     }
 }
 
-fn read_input(rt: &HostRuntime) -> Result<Vec<u8>, FileFault> {
-    let mut text = Vec::new(rt.alloc());
-    match rt.stdin().read_to_end(&mut text) {
-        Ok(_) => Ok(text),
-        Err(error) if error.kind() == ErrorKind::OutOfMemory => Err(FileFault::Memory),
-        Err(error) => Err(FileFault::Read(error)),
-    }
-}
-
 // Loads all of them as one step, and says which is refused; they are checked if none is.
 fn check_texts<M: Meaning>(
     rt: &HostRuntime,
     session: &mut Session<M>,
-    texts: &[LookedAt<'_>],
+    texts: &[LookedAt],
     observer: &Observer<'_>,
 ) -> u8 {
     let mut screen = Shown {
@@ -181,21 +184,16 @@ fn check_texts<M: Meaning>(
             }
             0
         }
-        Err(refusal) => {
-            let Some(faulty) = faulty_module(rt.alloc(), session) else {
-                return 4;
-            };
-            match texts.iter().rfind(|it| it.name == faulty) {
-                Some(text) => refused(session, text, &refusal, observer, &mut screen),
-                None => 4,
-            }
-        }
+        Err(refusal) => match with_fault(rt.alloc(), session, texts, &refusal) {
+            Some(text) => refused(session, text, &refusal, observer, &mut screen),
+            None => 4,
+        },
     }
 }
 
 fn refused<M: Meaning, W: Write>(
     session: &Session<M>,
-    text: &LookedAt<'_>,
+    text: &LookedAt,
     refusal: &Refusal,
     observer: &Observer<'_>,
     screen: &mut Shown<W>,

@@ -1,9 +1,11 @@
 //! What is said on standard error while a script is run.
 
+use command_line::{CommandLine, Escaped};
 use observing::{Observer, Screen};
 use prim_core::Meaning;
 use script_core::{Piece, Watch};
 use session_core::{Refusal, Session};
+use std::alloc::{AllocError, Global};
 use std::cell::Cell;
 use std::io::Write;
 
@@ -16,6 +18,15 @@ pub struct Shown<W> {
 impl<W: Write> Screen for Shown<W> {
     fn show(&mut self, lines: &[u8]) {
         let _ = self.stream.write_all(lines);
+    }
+}
+
+/// The name of a file as what is said has it. In JSON it stays as it is, since JSON escapes it.
+pub fn shown_name(alloc: Global, line: &CommandLine<'_>, file: &str) -> Result<String, AllocError> {
+    if line.explain_json {
+        String::from_str(alloc, file)
+    } else {
+        format!(in alloc; "{}", Escaped(file))
     }
 }
 

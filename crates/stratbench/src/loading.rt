@@ -3,21 +3,32 @@
 ghost use Rattle.std.specs.Prelude.{◌≡◌, ◌⊎◌, Ok, Err, OnOk, OnErr, IfErr};
 ghost use Rattle.stratbench.specs.Files.{Loads};
 
-use crate::status::FileFault;
 use command_line::Load;
+use hint_text::{arity_of, module_of};
 use observing::{LoadedText, faulty_module};
 use prim_core::Meaning;
 use session_core::{Refusal, Session};
 use session_loading::{load_module, load_tree};
 use std::alloc::Global;
-use std::fs;
-use std::io::{self, ErrorKind};
+use strategy_check::FaultKind;
+use term_core::{Label, Name};
 
 /// A file that was loaded, with its text.
 #[derive(Drop)]
 pub struct Loaded<'l, 'a> {
     pub load: &'l Load<'a>,
     pub text: Vec<u8>,
+}
+
+/// A module from a file.
+pub trait FromFile {
+    fn name(&self) -> &Label;
+}
+
+impl FromFile for Loaded<'_, '_> {
+    fn name(&self) -> &Label {
+        self.load.name()
+    }
 }
 
 /// Loads the text of a file of the command line.
@@ -40,36 +51,57 @@ pub fn load_text<M: Meaning>(
     }
 }
 
-/// The text of a file.
-pub fn read_file(rt: &HostRuntime, file: &str) -> Result<Vec<u8>, FileFault> {
-    let read: io::Result<Vec<u8>> = fs::read(rt, file);
-    match read {
-        Ok(bytes) => Ok(bytes),
-        Err(error) if error.kind() == ErrorKind::OutOfMemory => Err(FileFault::Memory),
-        Err(error) => Err(FileFault::Read(error)),
-    }
-}
-
-/// What a file loads, as an observer sees it.
-pub fn loaded_text<'a>(load: &'a Load<'_>, text: &'a [u8]) -> LoadedText<'a> {
+/// What a file loads, as an observer sees it. The file has this name in messages.
+pub fn loaded_text<'a>(load: &'a Load<'_>, file: &'a str, text: &'a [u8]) -> LoadedText<'a> {
     LoadedText {
         word: match load {
             Load::Module(_) => "module",
             Load::Tree(_) => "tree",
         },
         name: load.name().bytes(),
-        file: load.file(),
+        file,
         text,
     }
 }
 
-/// The module that has the first fault. Of several of one name that is the last, whose text the
-/// session has.
-pub fn with_fault<'s, 'l, 'a, M: Meaning>(
+/// The module for which modules are refused together: of those that define the same the last that was
+/// given, or else the one with the first fault. Of several of one name that is the last, whose text
+/// the session has.
+pub fn with_fault<'s, T: FromFile, M: Meaning>(
     alloc: Global,
     session: &Session<M>,
-    modules: &'s [Loaded<'l, 'a>],
-) -> Option<&'s Loaded<'l, 'a>> {
+    modules: &'s [T],
+    refusal: &Refusal,
+) -> Option<&'s T> {
+    if let Refusal::Check(FaultKind::Twice, name, strategies, terms) = refusal {
+        for it in modules.iter().rev() {
+            if defines(alloc, session, it.name(), name, (*strategies, *terms)) {
+                return Some(it);
+            }
+        }
+    }
     let faulty = faulty_module(alloc, session)?;
-    modules.iter().rfind(|it| *it.load.name() == faulty)
+    modules.iter().rfind(|it| *it.name() == faulty)
+}
+
+// Whether the module defines the name with so many strategies and terms as parameters.
+fn defines<M: Meaning>(
+    alloc: Global,
+    session: &Session<M>,
+    module: &Label,
+    name: &Name,
+    arity: (u64, u64),
+) -> bool {
+    let Some(text) = session.timeline().module_text(module) else {
+        return false;
+    };
+    let Ok(module) = module_of(alloc, text) else {
+        return false;
+    };
+    for definition in module.definitions() {
+        if definition.name().equals(name) && arity_of(definition) == arity {
+            return true;
+        }
+    }
+    false
 }

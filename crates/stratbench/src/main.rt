@@ -12,19 +12,23 @@ mod checking;
 mod dialogue;
 mod explaining;
 mod loading;
+mod reading;
+mod room;
 mod status;
 mod writing;
 
 use checking::check_modules;
 use clap::Error;
 use clap::error::ErrorKind;
-use command_line::{CommandLine, Load, arguments};
+use command_line::{CommandLine, Escaped, Load, arguments};
 use dialogue::Prompting;
-use explaining::{Explaining, Shown};
-use loading::{Loaded, load_text, loaded_text, read_file, with_fault};
+use explaining::{Explaining, Shown, shown_name};
+use loading::{Loaded, load_text, loaded_text, with_fault};
 use observing::{Form, Observer, Wanted};
 use prim_core::{Meaning, Primitive, Primitives};
 use prim_extended::extended_primitives;
+use reading::{ScriptFile, limit_of, read_file};
+use room::{NEEDED, too_small_stack};
 use script_core::{
     Answer, Counted, Framing, RunFault, Settings, Sink, Source, Summary, run, run_watched,
 };
@@ -35,12 +39,15 @@ use std::alloc::Global;
 use std::cell::Cell;
 use std::env;
 use std::fs::File;
-use std::io::{self, BufWriter, IsTerminal, Read, Write};
+use std::io::{self, BufWriter, IsTerminal, Write};
 use std::process::ExitCode;
 use writing::write_tree;
 
 // The exit status if the command line is refused.
 const REFUSED: u8 = 2;
+
+// The exit status if there is no memory, or too little stack.
+const NO_MEMORY: u8 = 4;
 
 fn main(rt: HostRuntime) -> ExitCode {
     ExitCode::from(start(&rt))
@@ -62,19 +69,22 @@ fn start(rt: &HostRuntime) -> u8 {
 
 fn start_with(rt: &HostRuntime, words: &[String]) -> u8 {
     match arguments(rt.alloc(), words) {
-        Ok(line) => start_line(rt, &line),
+        Ok(line) => match too_small_stack(rt) {
+            None => run_line(rt, &line),
+            Some(bytes) => refuse_stack(rt, bytes),
+        },
         Err(error) => refuse_line(rt, &error),
     }
 }
 
-// Runs the script, if the budget is within the greatest.
-fn start_line(rt: &HostRuntime, line: &CommandLine<'_>) -> u8
-    requires { line.now.max_terms ≤ MAX_ROOM }
-{
-    if line.budget > line.max_steps {
-        return refuse_budget(rt, line);
-    }
-    run_line(rt, line)
+// Says that the stack is too small. The deepest terms and strategies would overflow it, and answers
+// would be lost.
+fn refuse_stack(rt: &HostRuntime, bytes: u64) -> u8 {
+    let (has, needed) = (bytes / 1024, NEEDED / 1024);
+    let _ = eprintln!(rt;
+        "stratbench: no memory: the stack has {has} KiB, and a session needs {needed} (`ulimit -s` sets it)"
+    );
+    NO_MEMORY
 }
 
 // The words of the command line, which have to be text. `--explain=json` is another spelling of
@@ -101,16 +111,6 @@ fn refuse_line(rt: &HostRuntime, error: &Error) -> u8 {
     error.exit_code() as u8
 }
 
-// Prints that `--steps` names more than the greatest budget.
-fn refuse_budget(rt: &HostRuntime, line: &CommandLine<'_>) -> u8 {
-    let (steps, most) = (line.budget, line.max_steps);
-    let _ = eprintln!(rt;
-        "error: invalid value '{steps}' for '--steps <N>': the greatest budget is {most} (--max-steps raises it)"
-    );
-    let _ = eprintln!(rt; "\nFor more information, try '--help'.");
-    REFUSED
-}
-
 // Prints the fault of a run, if there was one.
 fn report(rt: &HostRuntime, outcome: Result<Summary, RunFault>) -> u8 {
     if let Err(fault) = &outcome {
@@ -121,6 +121,7 @@ fn report(rt: &HostRuntime, outcome: Result<Summary, RunFault>) -> u8 {
 
 // Prints what is wrong with a file.
 fn report_file(rt: &HostRuntime, file: &str, fault: &FileFault) -> u8 {
+    let file = Escaped(file);
     let _ = match fault {
         FileFault::Read(error) => eprintln!(rt; "stratbench: read fault: {file}\n    {error}"),
         FileFault::Write(error) => eprintln!(rt; "stratbench: write fault: {file}\n    {error}"),
@@ -131,7 +132,7 @@ fn report_file(rt: &HostRuntime, file: &str, fault: &FileFault) -> u8 {
 }
 
 // Prints a refusal as an answer has it.
-fn print_refusal(rt: &HostRuntime, file: &str, refusal: &Refusal) -> io::Result<()> {
+fn print_refusal(rt: &HostRuntime, file: Escaped<'_>, refusal: &Refusal) -> io::Result<()> {
     let Ok(mut text) = Answer::new(rt.alloc()) else {
         return Err(io::ErrorKind::OutOfMemory.into());
     };
@@ -178,9 +179,9 @@ fn run_whole<M: Meaning>(rt: &HostRuntime, line: &CommandLine<'_>, session: &mut
     if let Err(status) = load_all(rt, session, line) {
         return status;
     }
-    let mut reason = None;
-    let outcome = run_session(rt, line, session, &mut reason);
-    let ended = report_run(rt, line, outcome, reason);
+    let reason = Cell::new(None);
+    let outcome = run_session(rt, line, session, &reason);
+    let ended = report_run(rt, line, outcome, reason.into_inner());
     match outcome {
         Ok(_) => write_all(rt, session, line, ended),
         // What stands after a fault isn't what the script leads to.
@@ -276,7 +277,7 @@ fn set_module<'l, 'a, M: Meaning>(
 ) -> Result<(), u8>
     ensures { OnOk result (LoadsFile load.now session.old session.new) }
 {
-    let text = match read_file(rt, load.file()) {
+    let text = match read_file(rt, load.file(), limit_of(line.max_terms)) {
         Ok(text) => text,
         Err(fault) => return Err(report_file(rt, load.file(), &fault)),
     };
@@ -296,7 +297,7 @@ fn load_tree<M: Meaning>(
 ) -> Result<(), u8>
     ensures { OnOk result (LoadsFile load.now session.old session.new) }
 {
-    match read_file(rt, load.file()) {
+    match read_file(rt, load.file(), limit_of(line.max_terms)) {
         Ok(text) => {
             load_one(rt, session, load, &text, line)?;
             warn_of_load(rt, session, line, load, &text);
@@ -342,10 +343,24 @@ fn warn_of_load<M: Meaning>(
     load: &Load<'_>,
     text: &[u8],
 ) {
+    if let Ok(file) = shown_name(rt.alloc(), line, load.file()) {
+        warn_of_text(rt, session, line, load, &file, text);
+    }
+}
+
+// Says it of a file that has this name in messages.
+fn warn_of_text<'x, M: Meaning>(
+    rt: &HostRuntime,
+    session: &Session<M>,
+    line: &CommandLine<'_>,
+    load: &'x Load<'_>,
+    file: &'x str,
+    text: &'x [u8],
+) {
     let mut screen = Shown {
         stream: rt.stderr(),
     };
-    observer(rt, line).loaded(session, loaded_text(load, text), &mut screen);
+    observer(rt, line).loaded(session, loaded_text(load, file, text), &mut screen);
 }
 
 // Prints why the text of a file is refused. Returns the exit status.
@@ -357,11 +372,10 @@ fn report_load<M: Meaning>(
     text: &[u8],
     refusal: Refusal,
 ) -> u8 {
-    let mut screen = Shown {
-        stream: rt.stderr(),
+    let told = match shown_name(rt.alloc(), line, load.file()) {
+        Ok(file) => explain_text(rt, session, line, &*load, &file, &*text, &refusal),
+        Err(_) => false,
     };
-    let loaded = loaded_text(load, text);
-    let told = observer(rt, line).load_refused(session, loaded, &refusal, &mut screen);
     let fault = FileFault::from(refusal);
     if told {
         file_status(&fault)
@@ -370,7 +384,26 @@ fn report_load<M: Meaning>(
     }
 }
 
-// Prints why the modules are refused together, with the file of the one that has the fault.
+// Says why the text of a file is refused, if that is wanted. Returns whether it did. The file has this
+// name in messages.
+fn explain_text<'x, M: Meaning>(
+    rt: &HostRuntime,
+    session: &Session<M>,
+    line: &CommandLine<'_>,
+    load: &'x Load<'_>,
+    file: &'x str,
+    text: &'x [u8],
+    refusal: &Refusal,
+) -> bool {
+    let mut screen = Shown {
+        stream: rt.stderr(),
+    };
+    let loaded = loaded_text(load, file, text);
+    observer(rt, line).load_refused(session, loaded, refusal, &mut screen)
+}
+
+// Prints why the modules are refused together, with the file of the one that has the fault, or that
+// clashes with one before it.
 fn report_modules<M: Meaning>(
     rt: &HostRuntime,
     session: &Session<M>,
@@ -378,7 +411,7 @@ fn report_modules<M: Meaning>(
     modules: &[Loaded<'_, '_>],
     refusal: Refusal,
 ) -> u8 {
-    match with_fault(rt.alloc(), session, modules) {
+    match with_fault(rt.alloc(), session, modules, &refusal) {
         Some(it) => report_load(rt, session, line, it.load, &it.text, refusal),
         None => report_file(rt, "--module", &FileFault::from(refusal)),
     }
@@ -400,8 +433,7 @@ fn write_all<M: Meaning>(
     status
 }
 
-// Prints the fault of a run, if there was one, and the file that couldn't be read, with the reason
-// why it couldn't be opened.
+// Prints the fault of a run, if there was one, and the file that couldn't be read, with the reason.
 fn report_run(
     rt: &HostRuntime,
     line: &CommandLine<'_>,
@@ -410,7 +442,7 @@ fn report_run(
 ) -> u8 {
     let ended = report(rt, outcome);
     if let (Err(RunFault::Read), Some(file)) = (outcome, line.file) {
-        let _ = eprintln!(rt; "stratbench: can't read {file}");
+        let _ = eprintln!(rt; "stratbench: can't read {}", Escaped(file));
     }
     if let Some(error) = &reason {
         let _ = eprintln!(rt; "    {error}");
@@ -419,12 +451,12 @@ fn report_run(
 }
 
 // Runs the session over the file, or over standard input if no file is named. If the file can't be
-// opened, the reason is left in `reason`.
+// read, the reason is left in `reason`.
 fn run_session<M: Meaning>(
     rt: &HostRuntime,
     line: &CommandLine<'_>,
     session: &mut Session<M>,
-    reason: &mut Option<io::Error>,
+    reason: &Cell<Option<io::Error>>,
 ) -> Result<Summary, RunFault> {
     let Ok(writer) = BufWriter::new(rt.alloc(), rt.stdout()) else {
         return Err(RunFault::Memory);
@@ -433,11 +465,12 @@ fn run_session<M: Meaning>(
         None => run_input(rt, session, line, writer),
         Some(path) => match File::open(rt, path) {
             Ok(file) => {
+                let file = ScriptFile::new(rt.alloc(), file, limit_of(line.max_terms), reason);
                 let (source, sink) = (Counted::new(file), Counted::new(writer));
                 run_between(rt, session, line, source, sink, None)
             }
             Err(error) => {
-                *reason = Some(error);
+                reason.set(Some(error));
                 Err(RunFault::Read)
             }
         },

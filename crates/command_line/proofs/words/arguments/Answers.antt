@@ -1,10 +1,11 @@
-use Rattle.std.proofs.Common.{List, ap, codes, map, sym, ◌≡◌, ◌∙◌}
+use Rattle.std.proofs.Common.{List, ap, arith, codes, map, sym, ◌≡◌, ◌∙◌}
 use Rattle.clap.specs.Words.{App, HasMatchesOf, Text, fault_of, first_of, found_of, is_simple, is_simple_and_free, matches_of, one_of, rows_of}
 use Rattle.clap.specs.declared.parser.matches.ArgMatches.{ArgMatches}
 use Rattle.clap.proofs.WalkLemmas.{first_value-rows, one_text-rows}
 use Rattle.command_line.specs.Line.{are_named_all, given, line, line_fault, values}
 use Rattle.command_line.proofs.FlagLemmas.{check_is_given, explain_is_given, explain_json_is_given, interactive_is_given, library_is_given, lines_is_given, pretty_is_given, profile_is_given, stop_is_given}
-use Rattle.command_line.proofs.NamedLemmas.{err_fails, fault_comes, malformed_fault, malformed_holds, no_fault}
+use Rattle.command_line.proofs.NamedLemmas.{err_fails, fault_comes, is_beyond, is_malformed, is_taken, malformed_holds, no_fault, untaken_fault}
+use Rattle.command_line.proofs.NumberLemmas.{number_is, usual_most}
 use Rattle.command_line.proofs.words.arguments.Goals as goal
 
 -- the matches of the command that is made are those of the command line
@@ -79,21 +80,26 @@ returns-in-Ok-clause-number g c =
     let words : List Text = map g.S.AsStr.text c.args.words.now in
     let rows = rows_are _ words c.in_ok-matches.matches c.in_ok-matches.ensures.ok.2 c.in_ok-command.ensures in
     let text = one_text-rows (found_of c.in_ok-matches.matches) (codes "steps") ∙ ap (one_of (codes "steps")) rows in
-    λ t e. c.number_of.ensures.number t (text ∙ e)
+    number_is 1 4000000000 100000 c.number_of-budget.result (one_of (codes "steps") (given words))
+    (λ e. c.number_of-budget.ensures.none (text ∙ e)) (λ t e. c.number_of-budget.ensures.read t (text ∙ e)) (λ t e. c.number_of-budget.ensures.other t (text ∙ e))
 
 pub returns-in-Ok-clause-max_steps : goal.returns-in-Ok-clause-max_steps
 returns-in-Ok-clause-max_steps g c =
     let words : List Text = map g.S.AsStr.text c.args.words.now in
     let rows = rows_are _ words c.in_ok-matches.matches c.in_ok-matches.ensures.ok.2 c.in_ok-command.ensures in
-    let text = one_text-rows (found_of c.in_ok-matches.matches) (codes "max-steps") ∙ ap (one_of (codes "max-steps")) rows in
-    λ t e. c.number_of-in-Ok.ensures.number t (text ∙ e)
+    let most_text = one_text-rows (found_of c.in_ok-matches.matches) (codes "max-steps") ∙ ap (one_of (codes "max-steps")) rows in
+    let most = number_is 1000000 4000000000 1000000 c.number_of-max_steps.result (one_of (codes "max-steps") (given words))
+    (λ e. c.number_of-max_steps.ensures.none (most_text ∙ e)) (λ t e. c.number_of-max_steps.ensures.read t (most_text ∙ e)) (λ t e. c.number_of-max_steps.ensures.other t (most_text ∙ e)) in
+    most
 
 pub returns-in-Ok-clause-max_terms : goal.returns-in-Ok-clause-max_terms
 returns-in-Ok-clause-max_terms g c =
     let words : List Text = map g.S.AsStr.text c.args.words.now in
     let rows = rows_are _ words c.in_ok-matches.matches c.in_ok-matches.ensures.ok.2 c.in_ok-command.ensures in
-    let text = one_text-rows (found_of c.in_ok-matches.matches) (codes "max-terms") ∙ ap (one_of (codes "max-terms")) rows in
-    λ t e. c.number_of-in-Ok-2.ensures.number t (text ∙ e)
+    let terms_text = one_text-rows (found_of c.in_ok-matches.matches) (codes "max-terms") ∙ ap (one_of (codes "max-terms")) rows in
+    let terms = number_is 100000 1000000000 100000 c.number_of.result (one_of (codes "max-terms") (given words))
+    (λ e. c.number_of.ensures.none (terms_text ∙ e)) (λ t e. c.number_of.ensures.read t (terms_text ∙ e)) (λ t e. c.number_of.ensures.other t (terms_text ∙ e)) in
+    terms
 
 pub returns-in-Ok-clause-file : goal.returns-in-Ok-clause-file
 returns-in-Ok-clause-file g c =
@@ -123,9 +129,15 @@ pub returns-in-Ok-clause-refused : goal.returns-in-Ok-clause-refused
 returns-in-Ok-clause-refused g c =
     let words : List Text = map g.S.AsStr.text c.args.words.now in
     let rows = rows_are _ words c.in_ok-matches.matches c.in_ok-matches.ensures.ok.2 c.in_ok-command.ensures in
-    no_fault words
-    (sym (ap (λ (a : App). fault_of a words) c.in_ok-command.ensures) ∙ c.in_ok-matches.ensures.kinds (ap is_simple_and_free c.in_ok-command.ensures))
-    (sym (ap are_named_all rows) ∙ c.in-Ok.ensures.named)
+    let budget_text = one_text-rows (found_of c.in_ok-matches.matches) (codes "steps") ∙ ap (one_of (codes "steps")) rows in
+    let budget = number_is 1 4000000000 100000 c.number_of-budget.result (one_of (codes "steps") (given words))
+    (λ e. c.number_of-budget.ensures.none (budget_text ∙ e)) (λ t e. c.number_of-budget.ensures.read t (budget_text ∙ e)) (λ t e. c.number_of-budget.ensures.other t (budget_text ∙ e)) in
+    let most_text = one_text-rows (found_of c.in_ok-matches.matches) (codes "max-steps") ∙ ap (one_of (codes "max-steps")) rows in
+    let most = number_is 1000000 4000000000 1000000 c.number_of-max_steps.result (one_of (codes "max-steps") (given words))
+    (λ e. c.number_of-max_steps.ensures.none (most_text ∙ e)) (λ t e. c.number_of-max_steps.ensures.read t (most_text ∙ e)) (λ t e. c.number_of-max_steps.ensures.other t (most_text ∙ e)) in
+    let none = sym (ap (λ (a : App). fault_of a words) c.in_ok-command.ensures) ∙ c.in_ok-matches.ensures.kinds (ap is_simple_and_free c.in_ok-command.ensures) in
+    no_fault words none
+    (is_taken words c.number_of-budget.result c.number_of-max_steps.result budget most (omega (arith, c.if-budget-max_steps.false)) (sym (ap are_named_all rows) ∙ c.in-Ok.ensures.named))
 
 pub returns-in_err-matches-clause-refused : goal.returns-in_err-matches-clause-refused
 returns-in_err-matches-clause-refused g c =
@@ -137,7 +149,30 @@ pub returns-in-Err-Malformed-clause-refused : goal.returns-in-Err-Malformed-clau
 returns-in-Err-Malformed-clause-refused g c =
     let words : List Text = map g.S.AsStr.text c.args.words.now in
     let rows = rows_are _ words c.in_ok-matches.matches c.in_ok-matches.ensures.ok.2 c.in_ok-command.ensures in
-    malformed_fault words c.in_ok-malformed-in-Err-Malformed.field-0
-    (sym (ap (λ (a : App). fault_of a words) c.in_ok-command.ensures) ∙ c.in_ok-matches.ensures.kinds (ap is_simple_and_free c.in_ok-command.ensures))
-    (sym (ap are_named_all rows)
-    ∙ malformed_holds c.in-Err-Malformed.field-0 _ _ _ c.in-Err-Malformed.field-0-is c.in-Err-Malformed.ensures.malformed) c.in_ok-malformed-in-Err-Malformed.ensures
+    let none = sym (ap (λ (a : App). fault_of a words) c.in_ok-command.ensures) ∙ c.in_ok-matches.ensures.kinds (ap is_simple_and_free c.in_ok-command.ensures) in
+    untaken_fault words c.in_ok-malformed-in-Err-Malformed.field-0 none
+    (is_malformed words (sym (ap are_named_all rows)
+    ∙ malformed_holds c.in-Err-Malformed.field-0 _ _ _ c.in-Err-Malformed.field-0-is c.in-Err-Malformed.ensures.malformed)) c.in_ok-malformed-in-Err-Malformed.ensures
+
+pub returns-in-Ok-clause-usual : goal.returns-in-Ok-clause-usual
+returns-in-Ok-clause-usual g c =
+    let words : List Text = map g.S.AsStr.text c.args.words.now in
+    let rows = rows_are _ words c.in_ok-matches.matches c.in_ok-matches.ensures.ok.2 c.in_ok-command.ensures in
+    let most_text = one_text-rows (found_of c.in_ok-matches.matches) (codes "max-steps") ∙ ap (one_of (codes "max-steps")) rows in
+    let most = number_is 1000000 4000000000 1000000 c.number_of-max_steps.result (one_of (codes "max-steps") (given words))
+    (λ e. c.number_of-max_steps.ensures.none (most_text ∙ e)) (λ t e. c.number_of-max_steps.ensures.read t (most_text ∙ e)) (λ t e. c.number_of-max_steps.ensures.other t (most_text ∙ e)) in
+    λ none. most ∙ usual_most words none
+
+pub returns-then-budget-max_steps-clause-refused : goal.returns-then-budget-max_steps-clause-refused
+returns-then-budget-max_steps-clause-refused g c =
+    let words : List Text = map g.S.AsStr.text c.args.words.now in
+    let rows = rows_are _ words c.in_ok-matches.matches c.in_ok-matches.ensures.ok.2 c.in_ok-command.ensures in
+    let budget_text = one_text-rows (found_of c.in_ok-matches.matches) (codes "steps") ∙ ap (one_of (codes "steps")) rows in
+    let budget = number_is 1 4000000000 100000 c.number_of-budget.result (one_of (codes "steps") (given words))
+    (λ e. c.number_of-budget.ensures.none (budget_text ∙ e)) (λ t e. c.number_of-budget.ensures.read t (budget_text ∙ e)) (λ t e. c.number_of-budget.ensures.other t (budget_text ∙ e)) in
+    let most_text = one_text-rows (found_of c.in_ok-matches.matches) (codes "max-steps") ∙ ap (one_of (codes "max-steps")) rows in
+    let most = number_is 1000000 4000000000 1000000 c.number_of-max_steps.result (one_of (codes "max-steps") (given words))
+    (λ e. c.number_of-max_steps.ensures.none (most_text ∙ e)) (λ t e. c.number_of-max_steps.ensures.read t (most_text ∙ e)) (λ t e. c.number_of-max_steps.ensures.other t (most_text ∙ e)) in
+    let none = sym (ap (λ (a : App). fault_of a words) c.in_ok-command.ensures) ∙ c.in_ok-matches.ensures.kinds (ap is_simple_and_free c.in_ok-command.ensures) in
+    untaken_fault words c.in_ok-beyond.field-0 none
+    (is_beyond words c.number_of-budget.result c.number_of-max_steps.result budget most (omega (arith, c.if-budget-max_steps.true))) c.in_ok-beyond.ensures
