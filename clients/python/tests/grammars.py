@@ -13,7 +13,7 @@ from stratbench.patch.edits import Cannot, Unwritable
 from stratbench.patch.nodes import Nodes
 from stratbench.patch.patcher import Patcher
 from stratbench.patch.brackets import Search
-from stratbench.patch.ropes import RopeEdit
+from stratbench.patch.rope import RopeEdit
 from stratbench.patch.templates import Templates
 from stratbench.terms import NoTerm, Term, deep, position, subterms
 
@@ -32,7 +32,7 @@ def anew(source):
     templates = Templates(dialect, patcher.layout, dialect.style(patcher.layout))
     Nodes(dialect.grammar, patcher.layout, templates, lambda old: False)
     edits = [RopeEdit(0, len(source.text), templates._fresh(new, b""))]
-    return Search(dialect.grammar, source.text, new, edits, templates, patcher.layout.newline, source._again).found([], None, False).assembled.text
+    return Search(dialect, source.text, new, edits, templates, patcher.layout.newline, source._again).found([], is_least=False).text
 
 
 def faults(source):

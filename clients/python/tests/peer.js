@@ -2,8 +2,9 @@
 //
 // Standard input has {rule, files: [{name, before, after, lost}]}, where `after` is null for a file that didn't change. Standard output has
 // how many files recast changed, how many it touched in which it changed nothing, how many of them have the same tree as ours; the files in
-// which it left out empty statements, those in which it wrote what is new into the line `#!..`, and all others in which it differs; and what is
-// wrong with ours: files that aren't parsed, and comments that are gone and weren't named.
+// which it left out empty statements, those in which it wrote what is new into the line `#!..`, those in which it wrote another tree than it
+// had, as where it indents the lines of a template literal, and all others in which it differs; and what is wrong with ours: files that aren't
+// parsed, and comments that are gone and weren't named.
 'use strict'
 const recast = require('recast')
 const babel = require('@babel/parser')
@@ -122,6 +123,8 @@ const bare = it => JSON.stringify(it.program, (key, value) => ['start', 'end', '
 // the same without empty statements
 const filled = it => JSON.stringify(JSON.parse(bare(it)), (key, value) => Array.isArray(value) ? value.filter(one => !one || one.type !== 'EmptyStatement') : value)
 const isInFirstLine = (before, theirs) => before.startsWith('#!') && theirs.startsWith(before.split('\n')[0]) && theirs.split('\n')[0] !== before.split('\n')[0]
+// whether recast has the same tree as ours, and writes another one only because it keeps old text: all written anew is that tree
+const isMiswritten = (tree, ours) => { try { return bare(parse(recast.prettyPrint(tree).code)) === bare(ours) } catch { return false } }
 const words = it => it.trim().replace(/\s+/g, ' ')
 const counted = all => { const found = new Map(); for (const it of all) found.set(it, (found.get(it) || 0) + 1); return found }
 const comments = tree => (tree.comments || []).map(it => words(it.value))
@@ -129,7 +132,7 @@ const comments = tree => (tree.comments || []).map(it => words(it.value))
 let input = ''
 process.stdin.on('data', it => { input += it }).on('end', () => {
   const { rule, files } = JSON.parse(input)
-  const found = { rules: Object.keys(RULES), changed: 0, touched: 0, same: 0, broken: 0, lost: 0, empty: [], hidden: [], other: [], wrong: [], seconds: 0 }
+  const found = { rules: Object.keys(RULES), changed: 0, touched: 0, same: 0, broken: 0, lost: 0, empty: [], hidden: [], miswritten: [], other: [], wrong: [], seconds: 0 }
   for (const { name, before, after, lost } of files) {
     if (after !== null) {
       try {
@@ -140,11 +143,11 @@ process.stdin.on('data', it => { input += it }).on('end', () => {
     }
     if (!RULES[rule]) continue
     const begun = process.cpuUsage()
-    let theirs
+    let given, theirs
     try {
-      const tree = recast.parse(before, { parser: { parse } })
-      RULES[rule](tree)
-      theirs = recast.print(tree, { quote: 'single' }).code
+      given = recast.parse(before, { parser: { parse } })
+      RULES[rule](given)
+      theirs = recast.print(given, { quote: 'single' }).code
     } catch { found.broken++; continue }
     const used = process.cpuUsage(begun)
     found.seconds += (used.user + used.system) / 1e6
@@ -159,6 +162,7 @@ process.stdin.on('data', it => { input += it }).on('end', () => {
       const ours = parse(after === null ? before : after)
       if (bare(tree) === bare(ours)) found.same++
       else if (filled(tree) === filled(ours)) found.empty.push(name)
+      else if (isMiswritten(given, ours)) found.miswritten.push(name)
       else found.other.push(name)
     } catch { found.broken++ }
   }

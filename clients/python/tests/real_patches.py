@@ -10,6 +10,7 @@ import sys
 import tokenize
 from collections import Counter
 
+from samples import sample
 from stratbench import python
 from stratbench.languages.python import LANGUAGE
 from stratbench.languages.python.patch.edits import BLOCKS, EXPRESSIONS, STATEMENTS, normal
@@ -200,6 +201,9 @@ WIDE = [
     ("a call", "f({})\n", "7, "),
     ("an operation", "x = {}1\n", "7 or "),
     ("a comparison", "x = {}1\n", "7 < "),
+    ("an operation whose operands need brackets", "x = {}1\n", "8 or "),
+    ("operations in one another whose operands need brackets", "x = 1{}\n", " * 7"),
+    ("operations whose operators change", "x = {}1\n", "1 * 1 | "),
     ("a list from which elements go", "x = [{}]\n", "gone, 1,  # a\n"),
     ("a block", "{}", "x = 7  # a\n"),
     ("a block from which statements go", "{}", "x\ngone  # a\n"),
@@ -214,6 +218,10 @@ def other(term):
         return listed(*(it for it in term.children if it.head != "gone"))
     if term.head == "Constant" and term.children[0].head == 7:
         return Term("BinOp", (Term("Constant", (Term(3), NONE)), Term("Add"), Term("Constant", (Term(4), NONE))))
+    if term.head == "Constant" and term.children[0].head == 8:
+        return Term("IfExp", (WRAPPED, WRAPPED, WRAPPED))
+    if term.head == "BitOr":
+        return Term("Pow")
     if term.head == "Expr" and term.children[0].children[:1] == (string("made"),):
         return Term("Pass")
     if term.head in ("Name", "Expr") and any(it.head in (b"gone", "gone") for it in term.children):
@@ -240,20 +248,15 @@ def calls(outer, part, count):
 
 
 def tests(everything):
-    files = sorted(glob.glob(f"{os.path.dirname(os.__file__)}/*.py"))[:: 2 if everything else 16]
-    sources = {}
-    for file in files:
-        with open(file, "rb") as it:
-            contents = it.read()
-        if len(contents) < 60_000:
-            sources[os.path.basename(file)] = python.Source(contents)
+    files = sample(glob.glob(f"{os.path.dirname(os.__file__)}/*.py"), range(60_000), 90 if everything else 11)
+    sources = {os.path.basename(file): python.Source(contents) for file, contents in files}
     for title, wrap, unwrap in WRAPS:
         outcomes_of = {name: there_and_back(it, wrap, unwrap) for name, it in sources.items()}
         yield from ((f"{title} and unwrapped: {name}", fault) for name, (fault, _) in outcomes_of.items() if fault)
         some = any(it for _, it in outcomes_of.values())
         yield f"{title} and unwrapped: {len(sources)} modules", "" if some else "nothing was wrapped"
-    for number, (name, source) in enumerate(sources.items()):
-        fault = kept(source, changed_by_chance(random.Random(number), source.term))
+    for name, source in sources.items():
+        fault = kept(source, changed_by_chance(random.Random(name), source.term))
         if fault:
             yield f"changes by chance of {name}", fault
     yield f"changes by chance of {len(sources)} modules", ""

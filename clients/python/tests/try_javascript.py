@@ -12,6 +12,7 @@ import subprocess
 import sys
 
 import packages
+from samples import below, sample
 from stratbench import languages
 from stratbench.languages.language import Missing
 from stratbench.refactor import Task, refactored
@@ -37,15 +38,8 @@ RULES = {
 
 
 def files(count):
-    found = []
-    for folder, _, names in os.walk(FOLDER):
-        found += [f"{folder}/{it}" for it in names if it.endswith((".js", ".mjs", ".cjs")) and not os.path.islink(f"{folder}/{it}")]
-    found = sorted(it for it in found if 1_000 < os.path.getsize(it) < 60_000)
-    work = []
-    for name in found[:: max(1, len(found) // count)][:count]:
-        with open(name, "rb") as it:
-            work.append((name, it.read()))
-    return [it for it in work if is_utf8(it[1])]
+    """So many files of JavaScript, with their contents."""
+    return sample(below(FOLDER, lambda name: name.endswith((".js", ".mjs", ".cjs"))), range(1_001, 60_000), count, is_utf8)
 
 
 def is_utf8(contents):
@@ -116,7 +110,8 @@ def measured(top, count):
         wrong = [f"{it.name}: {it.left}" for it in outcomes if it.left and "no JavaScript" not in it.left]
         found = peer(rule, work, outcomes)
         wrong += found["wrong"]
-        # recast leaves out empty statements, and writes what comes first into the line `#!..`: those files are counted apart
+        # recast leaves out empty statements, writes what comes first into the line `#!..`, and moves the lines of template literals: peer.js
+        # counts those files apart
         wrong += [f"{it}: recast gives another tree" for it in found["other"]]
         yield f"{rule}: {len(changed)} of {len(work)} files change", "\n".join(wrong[:20]), found
 

@@ -7,17 +7,18 @@ installed where that can be done.
 import glob
 import os
 import re
-import tempfile
 import zipfile
-import zlib
 
 import grammars
 import layouts
 import packages
 import try_mixed
+from samples import below, sample, sampled
 from stratbench import languages, refactor
+from stratbench.languages.by_grammar import ByGrammar
 from stratbench.languages.language import Fault, Missing
-from stratbench.terms import deep
+from stratbench.patch import patched
+from stratbench.terms import Term, deep, string
 
 PACKAGES = {"javascript": ["nodejs", "node-babel7"], "yaml": ["python3-yaml"], "java": ["default-jdk-headless"]}
 # What an empty file of each language is.
@@ -46,48 +47,34 @@ FOLDERS = {"javascript": "/usr/share/nodejs", "json": "/usr/share/nodejs", "yaml
 SOURCES = "/usr/lib/jvm/*/lib/src.zip"
 
 
-def sampled(checksums, count):
-    """So many of some files, by their names: those of the lowest hashes of name and contents, whose checksums are given. What is tried is the
-    same wherever the files are the same, and a file that is tried among many is tried among fewer of them, too."""
-    return sorted(checksums, key=lambda it: (zlib.crc32(it.encode(errors="surrogateescape"), checksums[it]), it))[:count]
-
-
-def jdk_sources(room, count):
-    """So many of the JDK's sources, in a folder."""
+def jdk_sources(count):
+    """So many of the JDK's sources, with their contents."""
     for archive in sorted(it for it in glob.glob(SOURCES) if os.path.exists(it)):
         with zipfile.ZipFile(archive) as it:
             some = (one for one in it.infolist() if re.match(r"java.base/java/(util|io|time)/.*[a-z]\.java", one.filename))
             names = sampled({one.filename: one.CRC for one in some if 500 < one.file_size < 40_000}, count)
-            it.extractall(room, names)
-            return [f"{room}/{name}" for name in names]
+            return [(name, it.read(name)) for name in names]
     return []
 
 
-def real_files(name, room, count):
-    """So many files of a language that the machine has, of a size that is soon done."""
+def real_files(name, count):
+    """So many files of a language that the machine has, of a size that is soon done, with their contents."""
     if name == "java":
-        return jdk_sources(room, min(count, 30))
-    checksums = {}
-    for folder, _, files in os.walk(FOLDERS[name]):
-        for it in (f"{folder}/{it}" for it in files if languages.name_of(it) == name):
-            if os.path.isfile(it) and 500 < os.path.getsize(it) < 30_000:
-                with open(it, "rb") as opened:
-                    checksums[it] = zlib.crc32(opened.read())
-    return sampled(checksums, count)
+        return jdk_sources(min(count, 30))
+    return sample(below(FOLDERS[name], lambda file: languages.name_of(file) == name), range(501, 30_000), count)
 
 
-def fitting(name, everything, room):
+def fitting(name, everything):
     """Whether the grammar fits real files, and each made wholly anew has the same tree."""
     language = languages.named(name)
-    files = real_files(name, room, 200 if everything else 40)
+    files = real_files(name, 200 if everything else 40)
     if not files:
         yield f"{name}: this machine has no files", ""
         return
     wrong, parsed = [], 0
     with deep():
-        for file in files:
-            with open(file, "rb") as it:
-                [source] = language.sources([(file, it.read())])
+        for file, contents in files:
+            [source] = language.sources([(file, contents)])
             if isinstance(source, Fault):
                 continue
             parsed += 1
@@ -102,12 +89,9 @@ def fitting(name, everything, room):
 JAVA_RULES = ["bottomup(try(IsEmpty <+ NotEqual <+ CompoundOf))", "topdown(try(ReturnTest))", "topdown(try(java-no-else-after-return))"]
 
 
-def jdk_rules(top, room):
+def jdk_rules(top):
     """The rules for Java on the JDK's own sources: each result is a program, and the comments that are gone are named."""
-    work, modules = [], []
-    for file in jdk_sources(room, 30):
-        with open(file, "rb") as it:
-            work.append((file, it.read()))
+    work, modules = jdk_sources(30), []
     for name in ("lists", "java", "java-conditions"):
         with open(f"{top}/strategies/{name}.str", "rb") as it:
             modules.append((name, it.read()))
@@ -174,6 +158,46 @@ def later(top):
 COMMENT = re.compile(rb"//[^\n]*|/\*.*?\*/", re.DOTALL)
 
 
+class Counting:
+    """A front end that counts the bytes which it is sent."""
+
+    def __init__(self, front):
+        self.front, self.bytes = front, 0
+
+    def parsed(self, kind, sources, places):
+        self.bytes += sum(len(it) for it in sources)
+        return self.front.parsed(kind, sources, places)
+
+
+def conditional(term):
+    """A tree with a conditional expression in the place of each name `old`."""
+    if (term.head, term.children) == (OLD.head, OLD.children):
+        return Term("ConditionalExpression", (OLD, OLD, OLD))
+    return Term(term.head, tuple(conditional(it) for it in term.children), term.annotations)
+
+
+OLD = Term("Identifier", (string("old"),))
+# Files with operands.
+CHAINS = {"javascript": "x = {};\n", "java": "class A {{\n    void f() {{\n        x = {};\n    }}\n}}\n"}
+
+
+def chains(name):
+    """What is parsed where all operands of operations come to need brackets is linear in how many there are."""
+    known = languages.named(name)
+    for sign in (" || ", " - "):
+        found = []
+        for count in (40, 80):
+            front = Counting(known.front)
+            language = ByGrammar(name, known.title, known.suffixes, known.kinds, known.dialect, front, known.kind)
+            [source] = language.sources([("a" + known.suffixes[0], CHAINS[name].format(sign.join(["old"] * count)).encode())])
+            with deep():
+                got = patched(source, conditional(source.term))
+            wanted = CHAINS[name].format(sign.join(["(old ? old : old)"] * count)).encode()
+            found.append(front.bytes if got == wanted else 0)
+        few, many = found
+        yield f"twice the operands of {sign.strip()} that need brackets take twice the bytes", "" if 0 < many < 2.3 * few else f"{few} and {many}"
+
+
 def tests(top, everything):
     for name in (it for it in languages.NAMES if it != "python"):
         lacks = missing(name)
@@ -182,8 +206,10 @@ def tests(top, everything):
             continue
         for title, fault in layouts.tests(top, name):
             yield f"{name}: {title}", fault
-        with tempfile.TemporaryDirectory() as room:
-            yield from fitting(name, everything, room)
-            if name == "java":
-                yield from jdk_rules(top, room)
-                yield from later(top)
+        if name in CHAINS:
+            for title, fault in chains(name):
+                yield f"{name}: {title}", fault
+        yield from fitting(name, everything)
+        if name == "java":
+            yield from jdk_rules(top)
+            yield from later(top)

@@ -31,7 +31,7 @@ CASES = [
     ('add-import(|"re")', '"""doc"""\nfrom __future__ import a  # a\n\nx\n', '"""doc"""\nfrom __future__ import a  # a\nimport re\n\nx\n'),
     ('add-import(|"re")', "#!/usr/bin/python\n# what\nx\n", "#!/usr/bin/python\n# what\nimport re\n\nx\n"),
     ('add-import(|"re")', "import os, re\nx\n", "import os, re\nx\n"),
-    ('add-import-from(|"m","x")', "from m import (\n    y,  # y\n)\n", "from m import (\n    y, x,  # y\n)\n"),
+    ('add-import-from(|"m","x")', "from m import (\n    y,  # y\n)\n", "from m import (\n    y,  # y\n    x,\n)\n"),
     # strings
     ("bottomup(try(FormatToFString))", 'x = "%s is %r" % (a, b.c)\ny = \'100%%: %a{}\' % (1,)\nz = "%d" % (a,)\nw = "%s" % a\n', 'x = f"{a} is {b.c!r}"\ny = f\'100%: {1!a}{{}}\'\nz = "%d" % (a,)\nw = "%s" % a\n'),
     ("bottomup(try(FormatToFString))", 'x = "a\\n\u00e9%s" % (b,)\n', 'x = f"a\\n\u00e9{b}"\n'),

@@ -80,6 +80,7 @@ CASES = [
     ("a generator", "x = id(y for y in z)\nf(id((y for y in z)))\n", EVERY % "Unwrap", "x = (y for y in z)\nf(y for y in z)\n"),
     ("a number before a dot", "id(1).real\nid(0x1F).real\n", EVERY % "Unwrap", "(1).real\n(0x1F).real\n"),
     ("a negative number", "x = 1 ** 2\n", EVERY % "Negative", "x = (-1) ** 2\n"),
+    ("brackets that do nothing stay where a node stays", "old((w := x), (a), [(old)])\nf((w := x))\nx = swap((w := x), (a))\n", EVERY % '(Rename(|"old","new") <+ Last(|Name("z",Load())) <+ Swap)', "new((w := x), (a), [(new)])\nf((w := x), z)\nx = a * (w := x)\n"),
     ("a walrus", "if (n := 1) > 0: pass\n", EVERY % "Grow", "if (n := 100) > 0: pass\n"),
     ("a comparison", "if not (a ==\n        b): pass\nx = -(not a == b)\n", EVERY % "NotEqual", "if a != b: pass\nx = -(a != b)\n"),
     # names and operators
@@ -164,12 +165,12 @@ CASES = [
     ("a decorated statement goes and comes", "a\n@one\ndef f(): pass\nb\n", "Module(\\ [x,y,z] -> [y,x,z] \\,id)", "@one\ndef f(): pass\na\nb\n"),
     # lists with commas
     ("two keywords for two positions", "f( a,  # a\n   (b), z = 1, )\nf(1, 2)\n", EVERY % "Keywords", "f( x=a,  # a\n   y=b, z = 1, )\nf(x=1, y=2)\n"),
-    ("an argument more", "f()\nf( )\nf(a)\nf(a, )\nf(a,\n  b=1)\n", EVERY % 'Last(|Name("z",Load()))', "f(z)\nf(z )\nf(a, z)\nf(a, z, )\nf(a, z,\n  b=1)\n"),
-    ("an argument less", "f(a)\nf(a, )\nf(a, b)\nf(a,  # a\n  b=1)\nf((a), *b)\n", EVERY % "Shorter", "f()\nf( )\nf(b)\nf(b=1)\nf(*b)\n"),
+    ("an argument more", "f()\nf( )\nf(a)\nf(a, )\nf(a,\n  b=1)\n", EVERY % 'Last(|Name("z",Load()))', "f(z)\nf(z )\nf(a, z)\nf(a, z, )\nf(a,\n  z,\n  b=1)\n"),
+    ("an argument less", "f(a)\nf(a, )\nf(a, b)\nf(a,  # a\n  b=1)\nf((a), *b)\n", EVERY % "Shorter", "f()\nf()\nf(b)\nf(b=1)\nf(*b)\n"),
     ("annotations", "def f(x, y: int = 2, *z: str): pass\n", EVERY % "(Typed <+ Untyped)", "def f(x: int, y = 2, *z): pass\n"),
     ("what a function returns", "def f( a ) : pass\ndef g()->  (int) :pass\n", "Module([Returns,NoReturns],id)", "def f( a )  -> int: pass\ndef g():pass\n"),
     ("a parameter more", "def f(): pass\ndef g(a, # a\n      b=1, *c): pass\nlambda: 1\n", EVERY % "Extra", "def f(extra): pass\ndef g(a, # a\n      b, extra=1, *c): pass\nlambda extra: 1\n"),
-    ("a parameter more where it may be", "def f( ): pass\ndef g(a,  # a\n      b): pass\nlambda a: 1\n", EVERY % "Extra", "def f(extra ): pass\ndef g(a,  # a\n      b, extra): pass\nlambda a, extra: 1\n"),
+    ("a parameter more where it may be", "def f( ): pass\ndef g(a,  # a\n      b): pass\nlambda a: 1\n", EVERY % "Extra", "def f(extra ): pass\ndef g(a,  # a\n      b,\n      extra): pass\nlambda a, extra: 1\n"),
     ("a starred parameter", "def f(a, b = 1): pass\n", EVERY % "Star", "def f(a, b = 1, *rest): pass\n"),
     ("a base class", "class A : pass\nclass B():  # b\n    pass\n", EVERY % "Base", "class A(Base) : pass\nclass B(Base):  # b\n    pass\n"),
     ("an entry of a dictionary goes", "x = {\n    1: a,  # a\n    **b,\n    3: c,\n}\n", EVERY % "Second", "x = {\n    **b,\n    3: c,\n}\n"),

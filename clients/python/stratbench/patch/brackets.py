@@ -8,15 +8,14 @@ from typing import Callable, Final, NamedTuple, Optional, Union
 
 from ..terms import LIST, Term, plain, position, read
 from ..terms import at as subterm
-from .dialect import Alone, Wrong
+from .dialect import Alone, Dialect, Wrong
 from .edits import Unwritable
-from .fewest import fewest
 from .grammar import Grammar
 from .layout import span
+from .needed import Bracketed, Pair, fewest, needed
 from .nodes import Frame
 from .render import Assembled, Renderer
-from .rope import Mark
-from .ropes import RopeEdit
+from .rope import Mark, RopeEdit
 from .templates import Templates
 
 # Parses texts; the second says whether positions are wanted.
@@ -34,76 +33,88 @@ class Region(NamedTuple):
     place: int = -1
 
 
-class Found(NamedTuple):
-    """The text of a tree, and how often it was parsed."""
-
-    assembled: Assembled
-    parses: int
-
-
 class Search:
     """The search for the brackets of a new text."""
 
     def __init__(
-        self, grammar: Grammar, text: bytes, new: Term, edits: Sequence[RopeEdit], templates: Templates, newline: bytes, parse: Parse
+        self, dialect: Dialect, text: bytes, new: Term, edits: Sequence[RopeEdit], templates: Templates, newline: bytes, parse: Parse
     ) -> None:
-        self._grammar, self._text, self._new, self._edits, self._parse = grammar, text, new, edits, parse
+        self._grammar, self._alone, self._text, self._parse = dialect.grammar, dialect.alone, text, parse
+        self._new, self._edits, self._brackets = new, edits, templates.brackets
         self._renderer = Renderer(newline, templates.brackets)
         self._nodes = {id(it): at for at, it in enumerate(templates.marked_nodes)}
         self._kept = frozenset(templates.kept)
         self._wanted = plain(new).encode()
-        self._parses = 0
         self._why = ""
 
-    def found(self, frames: Sequence[Frame], alone: Optional[Alone], fewest: bool = True) -> Found:
+    def found(self, frames: Sequence[Frame], is_least: bool = True) -> Assembled:
         """Returns the text, with the fewest brackets or with enough. Raises `Unwritable` where none was found."""
         active = set(self._kept)
         regions = self._regions(active)
-        if regions and alone is not None:
-            local = self._local(frames, alone, active)
+        if regions and self._alone is not None:
+            local = self._local(frames, self._alone, active)
             if local != active:
                 active = local
                 regions = self._regions(active)
         some: Set[int] = self._kept
         if regions:
             some = active = self._searched(regions, active)
-        if fewest:
-            active = self._least(active, some)
-        return Found(self._assembled(active), self._parses)
+        return self._assembled(self._least(active, active & some) if is_least else active)
 
     def _assembled(self, active: Set[int]) -> Assembled:
         return self._renderer.assembled(self._text, self._edits, active)
 
+    def needed(self, marks: Sequence[int], found: Assembled, between: tuple[bytes, bytes], is_right: Callable[[set[int]], bool]) -> set[int]:
+        """Returns those that are needed of some brackets, which aren't all redundant. They are in this text, which is parsed between two
+        others."""
+        begin, pairs = len(between[0]), dict[int, Pair]()
+        for it in marks:
+            (first, last), brackets = found.where[it], self._brackets(it)
+            if brackets.constructor is None:
+                pairs[it] = Pair((begin + first, begin + last), (begin + first + len(brackets.opens), begin + last - len(brackets.closes)))
+        if self._alone is None or len(marks) == 1 or not pairs:
+            return fewest(marks, is_right)
+        text = between[0] + found.text + between[1]
+        [got] = self._parse([text], True)
+        tree = Term(LIST) if isinstance(got, Wrong) else read(got)
+        return needed(marks, Bracketed(text, tree, pairs), self._sort, self._short_trees, is_right)
+
+    # The sort of a node that can be made a statement.
+    def _sort(self, node: Term) -> Optional[str]:
+        sort = self._grammar.sort(node)
+        return sort if self._alone is not None and sort in self._alone.around else None
+
+    # The trees of statements that are made of nodes of some sorts.
+    def _short_trees(self, texts: Sequence[tuple[str, bytes]]) -> list[Optional[bytes]]:
+        alone = self._alone
+        assert alone is not None
+        whole = [alone.before + alone.around[sort][0] + text + alone.around[sort][1] + alone.after for sort, text in texts]
+        return [None if isinstance(it, Wrong) else it for it in self._parse(whole, False)]
+
     # --- the whole text
+
+    def _spells(self, active: Set[int]) -> bool:
+        return self._parse([self._assembled(active).text], False) == [self._wanted]
 
     # Where the tree of the new text isn't the new tree; nothing where it is.
     def _regions(self, active: Set[int]) -> list[Region]:
         text = self._assembled(active).text
-        self._parses += 1
         [got] = self._parse([text], False)
         if got == self._wanted:
             return []
+        if not isinstance(got, Wrong):
+            [got] = self._parse([text], True)
         self._why = f"{got.message}: " if isinstance(got, Wrong) else ""
         if isinstance(got, Wrong):
             return [Region(*_line(text, got.place), place=got.place)]
-        self._parses += 1
-        [placed] = self._parse([text], True)
-        if isinstance(placed, Wrong):
-            return [Region(*_line(text, placed.place), place=placed.place)]
-        return Compared(self._grammar).regions(self._new, read(placed), len(text))
+        return differing(self._grammar, self._new, read(got), len(text))
 
     # The marks of the nodes that differ in some regions, and of their parts.
     def _near(self, regions: Sequence[Region]) -> set[int]:
         found: set[int] = set()
-        for it in regions:
-            waiting = list(it.nodes)
-            for node in waiting:
-                if id(node) in self._nodes:
-                    found.add(self._nodes[id(node)])
-            for node in [part for it in waiting for part in it.children]:
-                for part in node.children if node.head == LIST else (node,):
-                    if id(part) in self._nodes:
-                        found.add(self._nodes[id(part)])
+        for node in (it for region in regions for it in region.nodes):
+            parts = (part for child in node.children for part in (child.children if child.head == LIST else (child,)))
+            found |= {self._nodes[id(it)] for it in (node, *parts) if id(it) in self._nodes}
         return found
 
     def _searched(self, regions: list[Region], active: set[int]) -> set[int]:
@@ -132,16 +143,12 @@ class Search:
         first, last = regions[0][:2]
         return self._assembled(active).text[first : min(last, first + 60)].decode(errors="replace")
 
-    # The brackets that are needed: of some those are left out that do nothing, half of them at a time.
-    def _least(self, active: set[int], some: Set[int]) -> set[int]:
-        waiting = [sorted(active & some, reverse=True)]
-        while waiting:
-            part = waiting.pop()
-            if part and not self._regions(active - set(part)):
-                active = active - set(part)
-            elif len(part) > 1:
-                waiting += [part[: len(part) // 2], part[len(part) // 2 :]]
-        return active
+    # The brackets without those of some that do nothing.
+    def _least(self, active: set[int], some: set[int]) -> set[int]:
+        rest = active - some
+        if not some or self._spells(rest):
+            return rest
+        return rest | self.needed(sorted(some), self._assembled(active), (b"", b""), lambda it: self._spells(rest | it))
 
     # --- statements alone
 
@@ -152,88 +159,63 @@ class Search:
             first, last = span(it.old)
             edits = [one for one in self._edits if first <= one.first and one.last <= last]
             marks = sorted({piece.number for one in edits for piece in one.rope if isinstance(piece, Mark)} - done)
-            if marks:
-                needed = _Local(self, it, edits, alone, found).needed(marks)
-                if needed is not None:
-                    found |= needed
-                    done.update(marks)
+            own = self._in_statement(it, edits, alone, found, marks) if marks else None
+            if own is not None:
+                found |= own
+                done.update(marks)
         return found
 
-    def parsed(self, text: bytes) -> Union[bytes, Wrong]:
-        """Parses the text of a statement alone."""
-        [got] = self._parse([text], False)
-        return got
+    # Those that are needed of some in a statement, where others are known; or nothing where it can't be parsed alone.
+    def _in_statement(self, frame: Frame, edits: Sequence[RopeEdit], alone: Alone, known: Set[int], marks: Sequence[int]) -> Optional[set[int]]:
+        def assembled(active: Set[int]) -> Assembled:
+            return self._renderer.assembled(self._text, edits, active | known, *span(frame.old))
 
-    def is_same(self, new: Term, got: Term) -> bool:
-        """Whether two trees are the same but for positions and brackets."""
-        return not Compared(self._grammar).regions(new, got, 0)
+        def is_right(active: Set[int]) -> bool:
+            [got] = self._parse([alone.before + assembled(active).text + alone.after], False)
+            return not isinstance(got, Wrong) and not differing(self._grammar, frame.new, subterm(read(got), alone.path), 0)
 
-    def rendered(self, edits: Sequence[RopeEdit], active: Set[int], first: int, last: int) -> Assembled:
-        """Returns a part of the text with edits."""
-        return self._renderer.assembled(self._text, edits, active, first, last)
-
-
-class _Local:
-    """The search within a statement, where some brackets are known."""
-
-    def __init__(self, search: Search, frame: Frame, edits: Sequence[RopeEdit], alone: Alone, known: Set[int]) -> None:
-        self._search, self._edits, self._alone, self._known = search, edits, alone, known
-        self._first, self._last = span(frame.old)
-        self._new = frame.new
-
-    def needed(self, marks: Sequence[int]) -> Optional[set[int]]:
-        """Returns those that are needed of these, or nothing where the statement can't be parsed alone."""
-        if self._is_right(set()):
+        if is_right(set()):
             return set()
-        if not self._is_right(set(marks)):
+        if not is_right(set(marks)):
             # brackets may be wrong somewhere: one is enough, mostly
-            return next(({it} for it in marks if self._is_right({it})), None)
-        return fewest(marks, self._is_right)
-
-    def _is_right(self, active: Set[int]) -> bool:
-        text = self._search.rendered(self._edits, active | self._known, self._first, self._last).text
-        got = self._search.parsed(self._alone.before + text + self._alone.after)
-        return not isinstance(got, Wrong) and self._search.is_same(self._new, subterm(read(got), self._alone.path))
+            return next(({it} for it in marks if is_right({it})), None)
+        return self.needed(marks, assembled(set(marks)), (alone.before, alone.after), is_right)
 
 
-class Compared:
-    """Compares trees, where a block around one statement may be a bracket."""
-
-    def __init__(self, grammar: Grammar) -> None:
-        self._grammar = grammar
-
-    def regions(self, new: Term, got: Term, length: int) -> list[Region]:
-        """Returns where in the text of `got` it differs from `new`."""
-        found: list[Region] = []
-        waiting = [(new, got, Region(0, length))]
-        while waiting:
-            one, two, around = waiting.pop()
-            around = Region(*(position(two) or around[:2]), (*around.nodes[-1:], one) if self._grammar.is_node(one) else around.nodes)
-            if type(one.head) is not type(two.head) or one.head != two.head:
-                inner = self._in_brackets(one, two)
-                if inner is None:
-                    found.append(around)
-                else:
-                    waiting.append((one, inner, around))
-            elif len(one.children) != len(two.children):
-                found.append(self._in_list(one, two, around) if one.head == LIST else around)
+def differing(grammar: Grammar, new: Term, got: Term, length: int) -> list[Region]:
+    """Returns where in the text of `got` it differs from `new`, where a block around one statement may be a bracket."""
+    found: list[Region] = []
+    waiting = [(new, got, Region(0, length))]
+    while waiting:
+        one, two, around = waiting.pop()
+        around = Region(*(position(two) or around[:2]), (*around.nodes[-1:], one) if grammar.is_node(one) else around.nodes)
+        if type(one.head) is not type(two.head) or one.head != two.head:
+            inner = _in_brackets(grammar, one, two)
+            if inner is None:
+                found.append(around)
             else:
-                waiting.extend((it, other, around) for it, other in zip(one.children, two.children))
-        return found
+                waiting.append((one, inner, around))
+        elif len(one.children) != len(two.children):
+            found.append(_in_list(one, two, around) if one.head == LIST else around)
+        else:
+            waiting.extend((it, other, around) for it, other in zip(one.children, two.children))
+    return found
 
-    # The statement in a block, where that is a bracket for statements of its sort.
-    def _in_brackets(self, new: Term, got: Term) -> Optional[Term]:
-        found = self._grammar.brackets.get(self._grammar.sort(new))
-        if found is None or found.constructor is None or got.head != found.constructor:
-            return None
-        inner = got.children[-1]
-        return inner.children[0] if inner.head == LIST and len(inner.children) == 1 else None
 
-    def _in_list(self, one: Term, two: Term, around: Region) -> Region:
-        for it, other in zip(one.children, two.children):
-            if plain(it) != plain(other):
-                return around._replace(first=(position(other) or around[:2])[0])
-        return around
+# The statement in a block, where that is a bracket for statements of its sort.
+def _in_brackets(grammar: Grammar, new: Term, got: Term) -> Optional[Term]:
+    found = grammar.brackets.get(grammar.sort(new))
+    if found is None or found.constructor is None or got.head != found.constructor:
+        return None
+    inner = got.children[-1]
+    return inner.children[0] if inner.head == LIST and len(inner.children) == 1 else None
+
+
+def _in_list(one: Term, two: Term, around: Region) -> Region:
+    for it, other in zip(one.children, two.children):
+        if plain(it) != plain(other):
+            return around._replace(first=(position(other) or around[:2])[0])
+    return around
 
 
 def _line(text: bytes, place: int) -> tuple[int, int]:

@@ -3,7 +3,8 @@
 from __future__ import annotations
 
 import re
-from typing import Callable, Final, NamedTuple, Optional, Union
+from collections.abc import Mapping
+from typing import Callable, Final, NamedTuple, Optional
 
 from ..terms import Term
 from .grammar import Grammar
@@ -17,10 +18,6 @@ class Wrong(NamedTuple):
     message: str
 
 
-# Parses texts of a kind; without positions where that is enough, since it is quicker.
-Parser = Callable[[str, list[bytes], bool], list[Union[bytes, Wrong]]]
-
-
 class Style(NamedTuple):
     """How a file is written: the quotation mark of its strings, its unit of indentation, and the signs that new text does without."""
 
@@ -30,12 +27,14 @@ class Style(NamedTuple):
 
 
 class Alone(NamedTuple):
-    """How a statement is parsed alone: between these texts, and where it is in the tree."""
+    """How a statement is parsed alone: between these texts, and where it is in the tree. `around` has the sorts of nodes that can be made
+    statements, with what comes around them then."""
 
     sort: str
     before: bytes
     after: bytes
     path: tuple[int, ...]
+    around: Mapping[str, tuple[bytes, bytes]]
 
 
 def no_literal(term: Term, like: bytes, style: Style) -> Optional[bytes]:

@@ -16,7 +16,7 @@ class Edit(NamedTuple):
     text: bytes
 
 
-class Remark(Protocol):
+class SourceComment(Protocol):
     """A comment of a source: where it begins, and its text."""
 
     @property
@@ -30,7 +30,7 @@ class Patch(NamedTuple):
     """The edits of a source, in order, and the comments that aren't in the text after them."""
 
     edits: list[Edit]
-    lost: Sequence[Remark]
+    lost: Sequence[SourceComment]
 
 
 class Unwritable(Exception):

@@ -13,7 +13,6 @@ from .grammar import Constructor, Field, Grammar, Group, Part, Sign
 from .origins import Origins
 
 _BLANKS: Final = re.compile(rb"[ \t]*")
-_WORD: Final = re.compile(rb"[\w$]")
 
 
 class Comment(NamedTuple):

@@ -4,38 +4,32 @@ from __future__ import annotations
 
 import re
 from collections.abc import Callable, Sequence
-from typing import NamedTuple, Optional, Protocol
+from typing import NamedTuple, Optional
 
 from ..terms import Term, position
 from .edits import Cannot, aligned, gaps
 from .grammar import Field, Grammar
 from .layout import Layout, span
-from .rope import Break, Piece, Rope, placed
-from .ropes import RopeEdit
-from .templates import Templates
-
-
-class Slots(Protocol):
-    """The edits where a node comes in the place of an old one."""
-
-    def slot(self, old: Term, new: Term, plain: bool = False) -> list[RopeEdit]: ...
+from .rope import Break, Piece, Rope, RopeEdit, placed
+from .separated import Separated
+from .templates import Inside, Templates
 
 
 class _List(NamedTuple):
-    """A list of the source: the node that it is in, its field, its elements, where each is with the brackets around it, and the sign
-    between two."""
+    """A list of the source: the node that it is in, its field, its elements, where each is with the brackets around it, and how it is with signs
+    between them, if it has some."""
 
     node: Term
     field: Field
     items: tuple[Term, ...]
     spans: list[tuple[int, int]]
-    sign: bytes
+    separated: Optional[Separated]
 
 
 class Lists:
     """The edits of lists with signs between their elements, and of those with lines."""
 
-    def __init__(self, grammar: Grammar, layout: Layout, templates: Templates, slots: Slots, is_present: Callable[[Term], bool]) -> None:
+    def __init__(self, grammar: Grammar, layout: Layout, templates: Templates, slots: Inside, is_present: Callable[[Term], bool]) -> None:
         self._grammar, self._layout, self._templates, self._slots = grammar, layout, templates, slots
         # whether an old node is in the new tree
         self._is_present = is_present
@@ -55,7 +49,10 @@ class Lists:
             return self._each(items, news, field)
         if sign and self._missing_around(node, field):
             raise Cannot
-        there = _List(node, field, items, self._outer(node, field, items, sign), sign)
+        spans = self._outer(node, field, items, sign)
+        closes = self._layout.spots(node)[")" + field.name][0].first if sign else 0
+        separated = Separated(self._layout, spans, span(node)[0], closes, field.given[0]) if sign else None
+        there = _List(node, field, items, spans, separated)
         edits: list[RopeEdit] = []
         for goes, comes in gaps(aligned(kept), len(items), len(news)):
             edits += self._between(there, goes, news[comes.start : comes.stop])
@@ -86,15 +83,11 @@ class Lists:
         return kept
 
     def _owner(self, items: Sequence[Term], new: Term) -> Optional[int]:
-        waiting = [new]
-        while waiting:
-            it = waiting.pop()
-            origin = self._layout.origin(it)
-            if origin is not None:
-                first, last = span(origin)
-                return next((at for at, it in enumerate(items) if it.head == new.head and span(it)[0] <= first and last <= span(it)[1]), None)
-            waiting.extend(it.children[::-1])
-        return None
+        part = self._layout.origins.first_in(new)
+        if part is None:
+            return None
+        first, last = span(part)
+        return next((at for at, it in enumerate(items) if it.head == new.head and span(it)[0] <= first and last <= span(it)[1]), None)
 
     # Whether the sign before or after the list isn't there, as the brackets of one parameter.
     def _missing_around(self, node: Term, field: Field) -> bool:
@@ -130,15 +123,18 @@ class Lists:
         edits: list[RopeEdit] = []
         common = min(len(goes), len(comes))
         for at, it in zip(goes, comes):
-            if there.sign or self._layout.origin(it) is None:
+            if there.separated or self._layout.origin(it) is None:
                 edits += self._slots.slot(there.items[at], it, there.field.plain)
             else:
                 edits.append(self._exchanged(there.items[at], it, there.field))
         if len(goes) > common:
-            return edits + (self._gone_with_sign(there, goes[common], goes[-1]) if there.sign else self._gone_lines(there, goes[common:]))
-        if len(comes) > common:
-            after = goes.stop - 1
-            edits += self._come_with_sign(there, after, comes[common:]) if there.sign else self._come_in_lines(there, after, comes[common:])
+            if there.separated is None:
+                return edits + [self._gone_line(there.items[it]) for it in goes[common:]]
+            return edits + there.separated.gone(goes[common], goes[-1])
+        if len(comes) > common and there.separated is not None:
+            edits += there.separated.come(goes.stop - 1, [self._templates.element(it, there.field.plain) for it in comes[common:]])
+        elif len(comes) > common:
+            edits += self._come_in_lines(there, goes.stop - 1, comes[common:])
         return edits
 
     # --- lists over lines
@@ -153,9 +149,6 @@ class Lists:
 
     def _moved(self, new: Term, field: Field) -> Rope:
         return self._templates.run([new], True, field.plain) if self._layout.origin(new) is not None else self._templates.element(new, field.plain)
-
-    def _gone_lines(self, there: _List, goes: Sequence[int]) -> list[RopeEdit]:
-        return [self._gone_line(there.items[it]) for it in goes]
 
     # An element goes with its line, where it is alone there, with one of the blank lines around it, and with the comment after it.
     def _gone_line(self, item: Term) -> RopeEdit:
@@ -214,80 +207,6 @@ class Lists:
             if it.head in apart or other.head in apart
         ]
         return not gaps or max(gaps) > 1
-
-    # --- lists with signs
-
-    # The elements from one to another go. What is left between has one sign.
-    def _gone_with_sign(self, there: _List, first: int, last: int) -> list[RopeEdit]:
-        layout = self._layout
-        begin, end = there.spans[first][0], there.spans[last][1]
-        if last + 1 < len(there.spans):
-            # comments above the next one are its own
-            return [RopeEdit(begin, max(end, layout.leading(there.spans[last + 1][0])), [])]
-        if first > 0:
-            before = there.spans[first - 1][1]
-            sign = before + layout.bare(before, begin).find(there.sign)
-            kept = layout.trailing(sign + len(there.sign))
-            end = self._trailing_sign(there, end)[0]
-            if kept > sign + len(there.sign):
-                return [RopeEdit(sign, sign + len(there.sign), []), RopeEdit(kept, layout.trailing(end), [])]
-            return [RopeEdit(before, end, [])]
-        end = self._trailing_sign(there, end)[1]
-        blanks = re.compile(rb"\s*").match(layout.text, end)
-        start = begin
-        while start > span(there.node)[0] and layout.text[start - 1 : start].isspace():
-            start -= 1
-        return [RopeEdit(start, blanks.end() if blanks else end, [])]
-
-    # Where the last element ends, and where the sign after it ends, if there is one.
-    def _trailing_sign(self, there: _List, end: int) -> tuple[int, int]:
-        [closes] = self._layout.spots(there.node)[")" + there.field.name]
-        gap = self._layout.bare(end, max(end, closes.first))
-        place = gap.find(there.sign)
-        return (end, end + place + len(there.sign)) if place >= 0 else (end, end)
-
-    def _come_with_sign(self, there: _List, after: int, news: Sequence[Term]) -> list[RopeEdit]:
-        layout = self._layout
-        over_lines = self._over_lines(there)
-        at = max(after, 0)
-        indent = layout.indent(there.spans[at][0])
-        separator = there.field.given[0].encode().rstrip(b"\n\t ")
-        blank: list[Piece] = [Break()] if over_lines else [b" "] if there.field.given[0].endswith((" ", "\n")) and not self._is_tight(there) else []
-        ropes = [self._templates.element(it, there.field.plain) for it in news]
-        if after < 0:
-            rope = [part for it in ropes for part in (*it, separator, *blank)]
-            place = layout.leading(there.spans[0][0])
-            return [RopeEdit(place, place, placed(rope, indent))]
-        end = there.spans[after][1]
-        if after + 1 < len(there.spans):
-            sign = end + layout.bare(end, there.spans[after + 1][0]).find(there.sign) + len(there.sign)
-            rope = [part for it in ropes for part in (*blank, *it, separator)]
-            place = layout.trailing(sign)
-            return [RopeEdit(place, place, placed(rope, indent))]
-        sign = self._trailing_sign(there, end)[1]
-        place = layout.trailing(sign) if over_lines else sign
-        rope = []
-        for number, it in enumerate(ropes):
-            # the sign before it is there already, or comes
-            rope += [*([separator] if number else []), *blank, *it]
-        if sign > end:
-            return [RopeEdit(place, place, placed([*rope, separator], indent))]
-        if place > end:
-            return [RopeEdit(end, end, [separator]), RopeEdit(place, place, placed(rope, indent))]
-        return [RopeEdit(end, end, placed([separator, *rope], indent))]
-
-    # Whether each element is on a line of its own.
-    def _over_lines(self, there: _List) -> bool:
-        gaps = [self._layout.bare(one[1], two[0]) for one, two in zip(there.spans, there.spans[1:])]
-        if gaps:
-            return all(b"\n" in it for it in gaps)
-        before = self._layout.bare(span(there.node)[0], there.spans[0][0])
-        return b"\n" in before[len(before.rstrip()) :]
-
-    # Whether there are no blanks after the signs that are there.
-    def _is_tight(self, there: _List) -> bool:
-        gaps = [self._layout.bare(one[1], two[0]) for one, two in zip(there.spans, there.spans[1:])]
-        return bool(gaps) and all(it.endswith(there.sign) for it in gaps)
 
     # A list that was empty.
     def _filled(self, node: Term, field: Field, new: Term) -> list[RopeEdit]:

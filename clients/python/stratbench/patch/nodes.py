@@ -4,36 +4,35 @@ from __future__ import annotations
 
 import re
 from collections.abc import Callable
-from typing import Optional
+from typing import NamedTuple, Optional
 
 from ..terms import LIST, Term, position
 from .edits import Cannot
 from .grammar import Constructor, Field, Grammar
 from .layout import Comment, Layout, Spot, span
 from .lists import Lists
-from .rope import Break, Copy, Note, Rope, joined, lines, notes, placed
-from .ropes import RopeEdit, in_order
+from .rope import Break, Copy, Note, Rope, RopeEdit, in_order, joined, lines, notes, placed
 from .templates import Templates
 
 
 # Where an old node has brackets that it needs.
-Brackets = Callable[[Term], Optional[tuple[int, int]]]
+NeededBefore = Callable[[Term], Optional[tuple[int, int]]]
 
 
-class Frame:
-    """A statement that stays and has edits in it: where it is, and the new one. What is wrong in it can be looked for there alone."""
+class Frame(NamedTuple):
+    """A statement that stays and has edits in it, and the new one. What is wrong in it can be looked for there alone."""
 
-    def __init__(self, old: Term, new: Term) -> None:
-        self.old, self.new = old, new
+    old: Term
+    new: Term
 
 
 class Nodes:
     """The edits within nodes. `frames` are the statements that have some, those inside before those around."""
 
     def __init__(
-        self, grammar: Grammar, layout: Layout, templates: Templates, is_present: Callable[[Term], bool], brackets: Brackets = lambda old: None
+        self, grammar: Grammar, layout: Layout, templates: Templates, is_present: Callable[[Term], bool], needed_before: NeededBefore = lambda old: None
     ) -> None:
-        self._grammar, self._layout, self._templates, self._brackets = grammar, layout, templates, brackets
+        self._grammar, self._layout, self._templates, self._needed_before = grammar, layout, templates, needed_before
         self._lists = Lists(grammar, layout, templates, self, is_present)
         self._is_present = is_present
         self.frames: list[Frame] = []
@@ -57,10 +56,10 @@ class Nodes:
             edits = [RopeEdit(first, last, placed(self._anew(old, new), self._layout.indent(first)), tight)]
         elif new.head in self._grammar.constructors and self._grammar.sort(new) == "statement":
             self.frames.append(Frame(old, new))
-        there = self._brackets(old) if not plain and self._binds_otherwise(old, new) else None
+        there = self._needed_before(old) if not plain and self._binds_otherwise(old, new) else None
         if plain or there is None and not self._grammar.has_brackets(new):
             return edits
-        return self._templates.around(old, new, edits, there)
+        return self._templates.bracketed(old, new, edits, there)
 
     # Whether brackets around an old node may do nothing around a new one.
     def _binds_otherwise(self, old: Term, new: Term) -> bool:
@@ -144,7 +143,7 @@ class Nodes:
     def _around(self, node: Term) -> list[RopeEdit]:
         if not self._grammar.has_brackets(node):
             return []
-        return self._templates.around(node, node, [], self._brackets(node))
+        return self._templates.bracketed(node, node, [], self._needed_before(node))
 
     # A name, an operator, a flag.
     def _word(self, old: Term, field: Field, one: Term, two: Term) -> list[RopeEdit]:
@@ -163,9 +162,8 @@ class Nodes:
             while last < len(text) and text[last : last + 1] in (b" ", b"\t") and first < spot.last:
                 last += 1
             return RopeEdit(first, last, [])
-        if first == last:
-            return RopeEdit(first, last, [joined(text[:first], word), word, joined(word, text[last:])])
-        word = word.strip()
+        if first < last:
+            word = word.strip()
         return RopeEdit(first, last, [joined(text[:first], word), word, joined(word, text[last:])])
 
     # A field that comes or goes, or a list that is empty before or after, with what goes with it.

@@ -6,7 +6,7 @@ from collections.abc import Callable, Container
 from operator import is_
 from typing import Optional
 
-from ..terms import LIST, Term, position
+from ..terms import LIST, Term, position, subterms
 
 
 class Origins:
@@ -36,6 +36,14 @@ class Origins:
             return None
         place = position(term)
         return None if place is None else self.found.get((*place, str(term.head)))
+
+    def first_in(self, new: Term) -> Optional[Term]:
+        """Returns the first old node in a new one, or the one that it is."""
+        return next((origin for it in subterms(new) if (origin := self.of(it)) is not None), None)
+
+    def present(self, new: Term) -> set[int]:
+        """Returns the ids of the old nodes that are in a new tree, as they were or with other parts."""
+        return {id(origin) for it in subterms(new) if (origin := self.of(it)) is not None}
 
     def shared(self, new: Term, candidate: Optional[Term], made: Callable[[Term], Term]) -> Term:
         """Returns a new tree with the old nodes where nothing changed, so that `is` compares them. `candidate` is the old one in its place, if

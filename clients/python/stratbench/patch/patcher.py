@@ -12,8 +12,7 @@ from .edits import Cannot, Patch, Unwritable
 from .layout import Comment, Layout
 from .nodes import Nodes
 from .redundant import OldBrackets
-from .rope import notes, without
-from .ropes import RopeEdit
+from .rope import RopeEdit, notes, without
 from .templates import Templates
 
 
@@ -44,7 +43,6 @@ class Patcher:
         self._dialect, self._text, self._old, self._parse = dialect, text, old, parse
         self.layout = Layout(dialect.grammar, text, old, dialect.comment, dialect.line_comments)
         self.new = self.layout.origins.shared(new, old, self._checked)
-        self.parses = 0
         self._brackets = OldBrackets(dialect, self.layout, parse)
 
     def _checked(self, made: Term) -> Term:
@@ -53,16 +51,8 @@ class Patcher:
 
     # Looked at where something goes, or comments do.
     @cached_property
-    def _present(self) -> frozenset[int]:
-        found: set[int] = set()
-        waiting = [self.new]
-        while waiting:
-            it = waiting.pop()
-            origin = self.layout.origin(it)
-            if origin is not None:
-                found.add(id(origin))
-            waiting.extend(it.children)
-        return frozenset(found)
+    def _present(self) -> set[int]:
+        return self.layout.origins.present(self.new)
 
     # Whether an old node is in the new tree.
     def _is_present(self, old: Term) -> bool:
@@ -78,10 +68,8 @@ class Patcher:
         nodes.coarse = coarse
         edits = nodes.slot(self._old, self.new)
         edits, lost = self._owned(edits)
-        search = Search(dialect.grammar, self._text, self.new, edits, templates, layout.newline, self._parse)
-        found = search.found(nodes.frames, dialect.alone)
-        self.parses += found.parses
-        return Patch(found.assembled.edits, lost)
+        search = Search(dialect, self._text, self.new, edits, templates, layout.newline, self._parse)
+        return Patch(search.found(nodes.frames).edits, lost)
 
     # The edits with each comment once, and the comments that are in none.
     def _owned(self, edits: Sequence[RopeEdit]) -> tuple[list[RopeEdit], list[Comment]]:

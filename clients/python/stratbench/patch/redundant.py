@@ -6,7 +6,7 @@ from typing import Optional
 
 from ..terms import Term, read
 from ..terms import at as subterm
-from .brackets import Compared, Parse
+from .brackets import Parse, differing
 from .dialect import Dialect, Wrong
 from .edits import Cannot
 from .layout import Layout, span
@@ -70,4 +70,4 @@ class OldBrackets:
         return text[:first] + b" " + text[first + 1 : last - 1] + b" " + text[last:]
 
     def _differ(self, old: Term, got: Term) -> bool:
-        return bool(Compared(self._dialect.grammar).regions(old, got, 0))
+        return bool(differing(self._dialect.grammar, old, got, 0))

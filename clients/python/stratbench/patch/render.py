@@ -7,8 +7,7 @@ from typing import NamedTuple, Optional
 
 from .edits import Edit
 from .grammar import Brackets
-from .rope import Break, Copy, Mark, Note, Piece, joined
-from .ropes import RopeEdit
+from .rope import Break, Copy, Mark, Note, Piece, RopeEdit, joined, spelt
 
 
 class Assembled(NamedTuple):
@@ -81,7 +80,7 @@ class Renderer:
                 brackets = self._brackets(it.number)
                 yield it, brackets.opens if it.opens else brackets.closes
             elif isinstance(it, Note):
-                yield None, b"".join(self._newline + part.blanks if isinstance(part, Break) else part for part in it.rope)
+                yield None, spelt(it.rope, self._newline)
                 to_end = it.to_end
             else:
                 yield None, it

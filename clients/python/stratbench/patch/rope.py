@@ -2,6 +2,8 @@
 
 What is copied from one place to another is indented otherwise there. So a line's end is a piece of its own, with the indentation after it
 as it is where the rope begins in the first column. The text of an atom of several lines, as of a template, is one piece.
+
+The text of an edit is a rope as long as brackets and comments aren't settled.
 """
 
 from __future__ import annotations
@@ -9,6 +11,8 @@ from __future__ import annotations
 import re
 from collections.abc import Iterable, Sequence
 from typing import Final, NamedTuple, Optional, Union
+
+from .edits import Cannot
 
 
 class Break(NamedTuple):
@@ -50,6 +54,24 @@ class Note(NamedTuple):
 
 Piece = Union[bytes, Break, Mark, Copy, Note]
 Rope = list[Piece]
+
+
+class RopeEdit(NamedTuple):
+    """The bytes from `first` to `last` are replaced by the rope. A `tight` one is text in which blanks mean something."""
+
+    first: int
+    last: int
+    rope: Rope
+    tight: bool = False
+
+
+def in_order(edits: Iterable[RopeEdit]) -> list[RopeEdit]:
+    """Returns edits of different fields in the order of the text. Raises `Cannot` where two overlap."""
+    found = sorted(edits, key=lambda it: (it.first, it.last))
+    if any(one.last > two.first for one, two in zip(found, found[1:])):
+        raise Cannot
+    return found
+
 
 _WORD: Final = re.compile(rb"[\w$]")
 # What two texts mustn't make together.
@@ -104,10 +126,9 @@ def _placed(it: Piece, indent: bytes) -> Piece:
     return it
 
 
-def ends(rope: Sequence[Piece]) -> tuple[bytes, bytes]:
-    """Returns the first and the last text of a rope."""
-    texts = [it for it in rope if isinstance(it, bytes) and it]
-    return (texts[0], texts[-1]) if texts else (b"", b"")
+def spelt(rope: Iterable[Piece], newline: bytes) -> bytes:
+    """Returns the text of a rope of texts and ends of lines."""
+    return b"".join(newline + it.blanks if isinstance(it, Break) else it for it in rope if isinstance(it, (bytes, Break)))
 
 
 def notes(rope: Iterable[Piece]) -> set[int]:

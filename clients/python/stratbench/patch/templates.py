@@ -2,7 +2,7 @@
 
 from __future__ import annotations
 
-from collections.abc import Sequence
+from collections.abc import Iterable, Sequence
 from typing import Optional, Protocol
 
 from ..terms import LIST, NoTerm, Term, cut
@@ -10,8 +10,7 @@ from .dialect import Dialect, Style
 from .edits import Cannot
 from .grammar import Brackets, Constructor, Field, Group, Part, Sign
 from .layout import Comment, Layout, span
-from .rope import Break, Copy, Mark, Note, Piece, Rope, ends, joined, lines, placed
-from .ropes import RopeEdit
+from .rope import Break, Copy, Mark, Note, Piece, Rope, RopeEdit, joined, lines, placed
 
 
 class Inside(Protocol):
@@ -71,7 +70,7 @@ class Templates:
         self.marked_nodes.append(node)
         return Mark(number, True), Mark(number, False)
 
-    def around(self, old: Term, new: Term, edits: Sequence[RopeEdit], there: Optional[tuple[int, int]]) -> list[RopeEdit]:
+    def bracketed(self, old: Term, new: Term, edits: Sequence[RopeEdit], there: Optional[tuple[int, int]]) -> list[RopeEdit]:
         """Returns edits with the places of brackets around an old node, in whose place a new one is. `there` is where it has some."""
         first, last = span(old)
         opens, closes = self.marks(new)
@@ -96,7 +95,7 @@ class Templates:
         for old, new in zip(origins, chunk):
             found = self.inside.slot(old, new, plain)
             if not found and not plain and self._grammar.has_brackets(new) and not whole_lines:
-                found = self.around(old, old, [], None)
+                found = self.bracketed(old, old, [], None)
             edits += found
         first, last = span(origins[0])[0], span(origins[-1])[1]
         indent = self._layout.indent(first)
@@ -202,7 +201,7 @@ class Templates:
         return out
 
     def _add(self, out: Rope, more: Sequence[Piece]) -> None:
-        one, two = _last(out), ends(more)[0] if not _begins_line(more) else b""
+        one, two = _edge(reversed(out)), _edge(more)
         if one and two and joined(one, two):
             out.append(b" ")
         out += more
@@ -253,16 +252,7 @@ class Templates:
         return values[at:end]
 
 
-# The last text of a rope, where it doesn't end a line.
-def _last(rope: Sequence[Piece]) -> bytes:
-    for it in reversed(rope):
-        if isinstance(it, bytes) and it:
-            return it
-        if isinstance(it, Break):
-            return b""
-    return b""
-
-
-def _begins_line(rope: Sequence[Piece]) -> bool:
-    first = next((it for it in rope if isinstance(it, Break) or isinstance(it, bytes) and it), None)
-    return isinstance(first, Break)
+# The first text of some pieces, where no line ends before it.
+def _edge(pieces: Iterable[Piece]) -> bytes:
+    first = next((it for it in pieces if isinstance(it, Break) or isinstance(it, bytes) and it), b"")
+    return first if isinstance(first, bytes) else b""

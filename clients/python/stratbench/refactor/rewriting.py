@@ -9,7 +9,7 @@ from typing import NamedTuple
 from ..diff import unified
 from ..languages.language import Path, Source
 from ..patch.changes import Change, changed, changes_of
-from ..patch.edits import Edit, Remark, apply_edits
+from ..patch.edits import Edit, SourceComment, apply_edits
 from ..terms import Term, position
 
 
@@ -18,7 +18,7 @@ class Rewritten(NamedTuple):
 
     edits: list[Edit]
     text: bytes
-    lost: Sequence[Remark]
+    lost: Sequence[SourceComment]
 
 
 def rewritten(source: Source, new: Term) -> Rewritten:
@@ -31,7 +31,7 @@ def with_comments(source: Source, places: Mapping[Path, Term]) -> Rewritten:
     """Returns the source with other terms at these places, but without the changes by which a comment would be lost. `lost` are these
     comments."""
     groups = changes_of(source.term, places, source.language.kinds)
-    without: list[Remark] = []
+    without: list[SourceComment] = []
     while True:
         found = rewritten(source, changed(source.term, [it for group in groups for it in group]))
         if not found.lost:
@@ -42,7 +42,7 @@ def with_comments(source: Source, places: Mapping[Path, Term]) -> Rewritten:
 
 
 # The group of changes, by its index, that a comment belongs to: that with the smallest in whose lines it is, or the last one before it.
-def _owner_of(source: Source, groups: Sequence[Sequence[Change]], comment: Remark) -> int:
+def _owner_of(source: Source, groups: Sequence[Sequence[Change]], comment: SourceComment) -> int:
     found: list[tuple[bool, int, int]] = []
     for at, group in enumerate(groups):
         for it in group:

@@ -61,7 +61,14 @@ def _style(layout: Layout) -> Style:
     return Style(unit=unit_of(layout.text, b"    "))
 
 
-_ALONE: Final = Alone("statement", b"class A { void f() { while (true) { ", b" } } }", (2, 0, 6, 0, 7, 0, 0, 1, 0, 0))
+_CALL: Final = (b"f(", b");")
+_ALONE: Final = Alone(
+    "statement",
+    b"class A { void f() { while (true) { ",
+    b" } } }",
+    (2, 0, 6, 0, 7, 0, 0, 1, 0, 0),
+    {"statement": (b"", b""), "expression": _CALL, "primary": _CALL},
+)
 
 
 @lru_cache

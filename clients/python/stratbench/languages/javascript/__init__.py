@@ -58,10 +58,14 @@ def _style(layout: Layout) -> Style:
     return Style(b'"' if quotes.count(b'"') > quotes.count(b"'") else b"'", unit_of(layout.text, b"  "))
 
 
+_BRACKETS: Final = (b"(", b")")
+_ALONE: Final = Alone("statement", b"", b"", (0, 0), {"statement": (b"", b""), "expression": _BRACKETS, "primary": _BRACKETS})
+
+
 @lru_cache
 def _dialect(kind: str) -> Dialect:
     comment = re.compile(rb"\A#![^\n\r]*|//[^\n\r]*|/\*.*?\*/", re.DOTALL)
-    return Dialect(_grammar(), comment, (b"//", b"#!"), _style, _literal, Alone("statement", b"", b"", (0, 0)))
+    return Dialect(_grammar(), comment, (b"//", b"#!"), _style, _literal, _ALONE)
 
 
 _STATEMENTS: Final = frozenset(it.name for it in _grammar().constructors.values() if it.sort == "statement")

@@ -59,7 +59,6 @@ class _Reader:
         self._events = iter(yaml.parse(text, Loader=loader))
         self._dashes: list[int] = []
         self._colons: list[int] = []
-        self._questions: list[int] = []
         for it in yaml.scan(text, Loader=loader):
             name = type(it).__name__
             if name == "BlockEntryToken":

@@ -9,7 +9,7 @@ from ....terms import LIST, Term
 from .commas import Commas
 from .edits import BLOCKS, PASS, Cannot, Edit, aligned, blocks_of, field_of, gaps, span
 from .fresh import Fresh
-from .markers import name_of
+from .markers import indented, name_of
 from .moved import Moved
 from .nodes import Nodes
 from .statements import Statements
@@ -144,7 +144,7 @@ class Clauses:
         begin = self._trees.leading_comments(sign) if home[1] else sign
         self._trees.carrying.extend((it.first, id(origin)) for it in self._trees.tokens.comments_between(begin, sign))
         comment = self._trees.comment_after(end)
-        text = self._trees.indented(self._trees.copied(begin, sign, []), self._trees.indent(sign), indent) + text
+        text = indented(self._trees.copied(begin, sign, []), self._trees.indent(sign), indent) + text
         return text if comment is None else text + self._trees.copied(end, comment.last, [])
 
 

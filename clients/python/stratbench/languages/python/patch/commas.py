@@ -3,10 +3,12 @@
 from __future__ import annotations
 
 from collections.abc import Sequence
-from typing import Callable, NamedTuple, Protocol, Tuple, Union
+from typing import Callable, NamedTuple, Tuple, Union
 
-from ..source import position
+from ....patch.rope import RopeEdit, spelt
+from ....patch.separated import Separated
 from ....terms import LIST, Term, string
+from ..source import position
 from .edits import COMPREHENSIONS, DISPLAYS, NONE, PASS, Cannot, Edit, aligned, field_of, gaps, is_same, span
 from .fresh import Fresh
 from .tokens import BRACKETS
@@ -66,36 +68,25 @@ def flat_parameters(term: Term) -> list[tuple[str, Term, Union[Term, None]]]:
     return found
 
 
-class Children(Protocol):
-    """The edits where a node comes in the place of another, and those of the fields of one."""
-
-    def child(self, owner: Term, old: Term, new: Term) -> list[Edit]: ...
-
-    def element(self, owner: Term, old: Term, new: Term) -> list[Edit]: ...
-
-    def fields(self, old: Term, new: Term) -> list[Edit]: ...
-
-
 class Commas:
-    """The edits of such lists, in which elements come, go and change."""
+    """The edits of such lists, in which elements come, go and change. Given are those where a node comes in the place of another in a third, and
+    those of the fields of one."""
 
-    nodes: Children
+    child: Callable[[Term, Term, Term], list[Edit]]
+    fields: Callable[[Term, Term], list[Edit]]
 
     def __init__(self, trees: Trees, fresh: Fresh) -> None:
         self._trees, self._fresh = trees, fresh
 
     def around(self, inside: tuple[int, int], term: Term) -> tuple[int, int]:
         """The node with the brackets around it, inside these places."""
-        first, last = span(term)
-        tokens = self._trees.tokens
-        while True:
-            before, after = tokens.before(first), tokens.after(last)
-            if tokens.text_at(before) != "(" or tokens.text_at(after) != ")":
-                return first, last
-            outer = (tokens.tokens[before].first, tokens.tokens[after].last)
+        tokens, found = self._trees.tokens, span(term)
+        while tokens.are_around(*found):
+            outer = tokens.last_before(found[0]).first, tokens.first_after(found[1]).last
             if outer[0] < inside[0] or outer[1] > inside[1]:
-                return first, last
-            first, last = outer
+                break
+            found = outer
+        return found
 
     def item(self, inside: tuple[int, int], *parts: Term) -> Item:
         """The element that is made of these nodes."""
@@ -106,13 +97,12 @@ class Commas:
         first, last = spans[0][0], spans[-1][1]
         if parts[0].head == "None":
             # `**x` in a dictionary
-            first = self._trees.tokens.tokens[self._trees.tokens.before(first)].first
+            first = self._trees.tokens.last_before(first).first
         return Item(first, last, parts)
 
     def _with_span(self, item: Term) -> tuple[int, int]:
         spans = [self.around(span(it), it) for it in item.children if it.head != "None"]
-        tokens = self._trees.tokens
-        if tokens.text_at(tokens.before(spans[0][0])) == "(" and tokens.text_at(tokens.after(spans[0][1])) == ")":
+        if self._trees.tokens.are_around(*spans[0]):
             raise Cannot
         return spans[0][0], spans[-1][1]
 
@@ -123,12 +113,12 @@ class Commas:
         old: Sequence[Item],
         new: Sequence[tuple[Term, ...]],
         text: Texts | None = None,
-        trailing: bool = True,
     ) -> list[Edit]:
         """The edits for a list with commas in this new node. `inside` are the places between its brackets."""
         if any(one.last > two.first for one, two in zip(old, old[1:])):
             raise Cannot
-        text = text or self._alone(inside)
+        # that of an item of one node
+        text = text or (lambda parts: self._fresh.text(parts[0], self._trees.frame(inside[0])))
         keys = {id(key_of(it.parts)): at for at, it in enumerate(old)}
         kept = [keys.get(id(self._trees.origin(key_of(parts)))) for parts in new]
         for other, at in enumerate(kept):
@@ -138,46 +128,23 @@ class Commas:
         front: list[Edit] = []
         edits: list[Edit] = []
         pairs = aligned(kept)
+        there = Separated(self._trees, [(it.first, it.last) for it in old], *inside, ", ")
         for one, two in pairs:
             for before, after in zip(old[one].parts, new[two]):
                 if not is_same(before, after):
-                    edits += self.nodes.element(owner, before, after)
-        # what stands for nothing yet takes the place of what goes, in order
+                    edits += self.child(owner, before, after)
         for goes, comes in gaps(pairs, len(old), len(new)):
-            for one, two in zip(goes, comes):
-                edits.append(Edit(old[one].first, old[one].last, text(new[two]).encode()))
-            if len(goes) > len(comes):
-                edits += self._without(inside, old, goes[len(comes)], goes[-1], goes.stop < len(old), trailing)
-            elif len(comes) > len(goes):
-                texts = [text(new[it]).encode() for it in comes[len(goes) :]]
-                if goes.stop:
-                    last = old[goes.stop - 1].last
-                    edits.append(Edit(last, last, b"".join(b", " + it for it in texts)))
-                elif old:
-                    front.append(Edit(old[0].first, old[0].first, b"".join(it + b", " for it in texts)))
-                else:
-                    edits.append(Edit(inside[0], inside[0], b", ".join(texts)))
+            texts = [text(new[it]).encode() for it in comes]
+            edits += [Edit(old[at].first, old[at].last, it) for at, it in zip(goes, texts)]
+            more = texts[len(goes) :]
+            if len(goes) > len(texts):
+                made = there.gone(goes[len(texts)], goes[-1])
+            elif more and old:
+                made = there.come(goes.stop - 1, [[it] for it in more])
+            else:
+                made = [RopeEdit(inside[0], inside[0], [b", ".join(more)])] if more else []
+            (edits if goes.stop or not old else front).extend(Edit(it.first, it.last, spelt(it.rope, self._trees.newline)) for it in made)
         return front + edits
-
-    # The text of an item of one node.
-    def _alone(self, inside: tuple[int, int]) -> Texts:
-        return lambda parts: self._fresh.text(parts[0], self._trees.frame(inside[0]))
-
-    # The edits that take the items from one to another away.
-    def _without(self, inside: tuple[int, int], old: Sequence[Item], first: int, last: int, more: bool, trailing: bool) -> list[Edit]:
-        if more:
-            return [Edit(old[first].first, old[last + 1].first, b"")]
-        if first > 0:
-            begin = old[first - 1].last
-            if trailing and self._trees.tokens.comments_between(begin, old[first].first):
-                begin = old[first].first
-                end = self._trees.tokens.after(old[last].last)
-                stop = self._trees.tokens.tokens[end].last if self._trees.tokens.text_at(end) == "," else old[last].last
-                return [Edit(begin, stop, b"")]
-            return [Edit(begin, old[last].last, b"")]
-        end = self._trees.tokens.after(old[last].last)
-        comma = self._trees.tokens.text_at(end) == "," and self._trees.tokens.tokens[end].last <= inside[1]
-        return [Edit(old[first].first, self._trees.tokens.tokens[end].last if comma else old[last].last, b"")]
 
     def display(self, old: Term, new: Term) -> list[Edit]:
         """The edits that make a list, a tuple or a set another of these, with its elements, or a comprehension another."""
@@ -190,18 +157,16 @@ class Commas:
             raise Cannot
         elements = [self.item(inside, it) for it in before]
         opens, closes = DISPLAYS[str(new.head)]
-        if new.head == "Tuple" and len(after) == 1 and self._trees.tokens.text_at(self._trees.tokens.after(elements[0].last)) != ",":
-            comma = [Edit(elements[0].last, elements[0].last, b",")]
-        else:
-            comma = []
         items = self.items(new, inside, elements, [(it,) for it in after])
+        is_bare = new.head == "Tuple" and len(after) == 1 and self._trees.tokens.first_after(elements[0].last).text != ","
+        comma = [Edit(elements[0].last, elements[0].last, b",")] if is_bare else []
         return [Edit(first, inside[0], opens), *items, *comma, Edit(inside[1], last, closes)]
 
     # The same of comprehensions.
     def _comprehension(self, old: Term, new: Term) -> list[Edit]:
         first, last = span(old)
         opens, closes = COMPREHENSIONS[str(new.head)]
-        edits = self.nodes.fields(old, Term(old.head, new.children))
+        edits = self.fields(old, Term(old.head, new.children))
         return [Edit(first, first + 1, opens), *edits, Edit(last - 1, last, closes)]
 
     def call(self, old: Term, new: Term) -> list[Edit] | None:
@@ -213,12 +178,11 @@ class Commas:
         if all(one == two for one, two in lengths):
             return None
         last = span(old)[1]
-        opens = self._trees.tokens.after(self.around(span(old), function)[1])
-        inside = (self._trees.tokens.tokens[opens].last, last - 1)
+        inside = (self._trees.tokens.first_after(self.around(span(old), function)[1]).last, last - 1)
         before = [*arguments.children, *keywords.children]
         if any(it.head == "GeneratorExp" and span(it)[1] == last for it in before):
             raise Cannot
-        edits = self.nodes.child(new, function, new.children[0]) if function is not new.children[0] else []
+        edits = self.child(new, function, new.children[0]) if function is not new.children[0] else []
         after = [(it,) for it in (*new.children[1].children, *new.children[2].children)]
         return edits + self.items(new, inside, [self.item(inside, it) for it in before], after)
 
@@ -258,21 +222,8 @@ class Commas:
     def parameters(self, old: Term, one: Term, two: Term) -> list[Edit]:
         """The parameters of a function."""
         if same_shape(one, two):
-            return self.nodes.fields(one, two)
-        tokens = self._trees.tokens
-        at = tokens.after(span(old)[0])
-        if old.head == "Lambda":
-            depth, end = 0, at + 1
-            while depth or tokens.text_at(end) != ":":
-                depth += BRACKETS.get(tokens.text_at(end), 0)
-                end += 1
-            inside = (tokens.tokens[at].last, tokens.tokens[end].first)
-        else:
-            if field_of(old, "type_params").children:
-                raise Cannot
-            while tokens.text_at(at) != "(":
-                at += 1
-            inside = (tokens.tokens[at].last, tokens.closing(at).first)
+            return self.fields(one, two)
+        inside = self._parameter_places(old)
         indent = self._trees.frame(inside[0])
         before, after = flat_parameters(one), flat_parameters(two)
         alone = any(sign in ("/", "bare") for sign, _, _ in [*before, *after])
@@ -282,7 +233,7 @@ class Commas:
         for sign, name, default in before:
             item = self.item(inside, *([name] if default is None else [name, default]))
             if sign:
-                item = item._replace(first=tokens.tokens[tokens.before(item.first)].first)
+                item = item._replace(first=self._trees.tokens.last_before(item.first).first)
             elements.append(item)
         news = [(name,) if default is None else (name, default) for _, name, default in after]
         marks = {id(parts[0]): sign for (sign, _, _), parts in zip(after, news)}
@@ -300,6 +251,22 @@ class Commas:
             if origin is not None and marks.get(id(origin)) != sign:
                 return [Edit(*inside, self._parameter_list(False, two, indent))]
         return self.items(two, inside, elements, news, text)
+
+    # Where the parameters of a function are: between its brackets, or before the colon of a lambda.
+    def _parameter_places(self, function: Term) -> tuple[int, int]:
+        tokens = self._trees.tokens
+        at = tokens.after(span(function)[0])
+        if function.head == "Lambda":
+            depth, end = 0, at + 1
+            while depth or tokens.text_at(end) != ":":
+                depth += BRACKETS.get(tokens.text_at(end), 0)
+                end += 1
+            return tokens.tokens[at].last, tokens.tokens[end].first
+        if field_of(function, "type_params").children:
+            raise Cannot
+        while tokens.text_at(at) != "(":
+            at += 1
+        return tokens.tokens[at].last, tokens.closing(at).first
 
     def _parameter_list(self, is_lambda: bool, new: Term, indent: bytes) -> bytes:
         if is_lambda:

@@ -26,11 +26,7 @@ class Marks:
 
     def edits(self, comments: Sequence[Token], edits: Sequence[Edit]) -> list[Edit]:
         """Returns the edits that mark these comments where they stay."""
-        return [self._put(it) for it in staying(comments, edits)]
-
-    def _put(self, comment: Token) -> Edit:
-        place = comment.first + 1
-        return Edit(place, place, b"%s%d%s" % (self.sign, comment.first + self.offset, self.sign))
+        return [Edit(it.first + 1, it.first + 1, b"%s%d%s" % (self.sign, it.first + self.offset, self.sign)) for it in staying(comments, edits)]
 
     def noted(self, edits: Sequence[Edit]) -> set[int]:
         """Returns the comments that are in the texts of edits."""

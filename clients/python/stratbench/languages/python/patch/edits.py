@@ -11,8 +11,9 @@ from ....patch.edits import Unwritable as Unwritable
 from ....patch.edits import aligned as aligned
 from ....patch.edits import apply_edits as apply_edits
 from ....patch.edits import gaps as gaps
+from ....patch.layout import span as span
 from ....terms import LIST, Term, string
-from ..source import CONSTRUCTORS, position
+from ..source import CONSTRUCTORS
 
 PASS: Final = Term("Pass")
 LOAD: Final = Term("Load")
@@ -26,13 +27,12 @@ OPERATORS: Final = {
 }  # fmt: skip
 # Where the operators of an operation are.
 OPERATIONS: Final = {"BinOp": 1, "BoolOp": 0, "UnaryOp": 0, "Compare": 1}
-# Statements with blocks, and the names of the fields that are blocks.
+# Statements with blocks, handlers and cases, and the names of the fields that are blocks.
 BLOCKS: Final = {
-    "FunctionDef": ("body",), "AsyncFunctionDef": ("body",), "ClassDef": ("body",), "If": ("body", "orelse"),
-    "For": ("body", "orelse"), "AsyncFor": ("body", "orelse"), "While": ("body", "orelse"), "With": ("body",),
-    "AsyncWith": ("body",), "Try": ("body", "orelse", "finalbody"), "TryStar": ("body", "orelse", "finalbody"),
-    "Match": (), "ExceptHandler": ("body",), "match_case": ("body",),
-}  # fmt: skip
+    it.name: tuple(field.name for field in it.fields if field.sort == "stmt")
+    for it in CONSTRUCTORS.values()
+    if it.sort != "mod" and any(field.sort in ("stmt", "match_case") for field in it.fields)
+}
 DEFINITIONS: Final = ("FunctionDef", "AsyncFunctionDef", "ClassDef")
 IMPORTS: Final = ("Import", "ImportFrom")
 STATEMENTS: Final = frozenset(it.name for it in CONSTRUCTORS.values() if it.sort == "stmt")
@@ -76,13 +76,6 @@ def parts_of(term: Term) -> tuple[Term, ...]:
     if term.head in DISPLAYS:
         return term.children[0].children
     return (term.children[0], *(field_of(it, "iter") for it in term.children[1].children[:1]))
-
-
-def span(term: Term) -> tuple[int, int]:
-    found = position(term)
-    if found is None:
-        raise Cannot
-    return found
 
 
 def same_tree(one: Term, two: Term) -> bool:

@@ -4,40 +4,25 @@ from __future__ import annotations
 
 import ast
 import re
-from collections.abc import Sequence
-from typing import Protocol
+from collections.abc import Callable, Sequence
 
 from ..source import CONSTRUCTORS, parse, unparse
 from ....terms import LIST, NoTerm, Term, string
 from .edits import BLOCKS, COMPREHENSIONS, DISPLAYS, LOAD, OPERATIONS, STATEMENTS, Cannot, Edit, parts_of, span
-from .markers import STRINGS, Piece, filled, marker_of, unparsed
+from .markers import STRINGS, Piece, filled, indented, marker_of, unparsed
 from .trees import Trees
 
 
-class Inside(Protocol):
-    """The edits within an old node that stays with other parts."""
-
-    def inside(self, old: Term, new: Term) -> list[Edit]: ...
-
-
-class Displays(Protocol):
-    """The edits that make a literal, or a comprehension, another."""
-
-    def display(self, old: Term, new: Term) -> list[Edit]: ...
-
-
-class Blocks(Protocol):
-    """The text of statements, without the indentation of its first line."""
-
-    def rendered(self, new: Sequence[Term], indent: bytes) -> bytes: ...
-
-
 class Fresh:
-    """How nodes are written that weren't there before."""
+    """How nodes are written that weren't there before.
 
-    nodes: Inside
-    displays: Displays
-    blocks: Blocks
+    Given are the edits within an old node that stays with other parts, those that make a literal, or a comprehension, another, and the text of
+    statements without the indentation of its first line.
+    """
+
+    inside: Callable[[Term, Term], list[Edit]]
+    display: Callable[[Term, Term], list[Edit]]
+    rendered: Callable[[Sequence[Term], bytes], bytes]
 
     def __init__(self, trees: Trees) -> None:
         self._trees = trees
@@ -53,10 +38,10 @@ class Fresh:
             return None
         try:
             first, last = span(origin)
-            own = self._trees.copied(first, last, [] if origin is term else self.nodes.inside(origin, term))
+            own = self._trees.copied(first, last, [] if origin is term else self.inside(origin, term))
         except Cannot:
             return None
-        text = self._trees.indented(own, self._trees.frame(first), indent, True).decode()
+        text = indented(own, self._trees.frame(first), indent).decode()
         if term.head == "Tuple" and not self._trees.is_bracketed_tuple(origin) and not any(it.head == "Slice" for it in term.children[0].children):
             return f"({text})"
         return text
@@ -90,10 +75,10 @@ class Fresh:
             return None
         first, last = span(old)
         try:
-            text = self._trees.copied(first, last, self.displays.display(old, term))
+            text = self._trees.copied(first, last, self.display(old, term))
         except Cannot:
             return None
-        return self._trees.indented(text, self._trees.frame(first), indent, True).decode()
+        return indented(text, self._trees.frame(first), indent).decode()
 
     def fitting(self, text: str) -> str:
         """A new text with escapes in its strings for what the encoding of the file doesn't have."""
@@ -139,7 +124,7 @@ class Fresh:
     def statement(self, term: Term, indent: bytes) -> bytes:
         """A statement made anew, without the indentation of its first line."""
         if self._trees.plain:
-            return self._trees.indented(self.fitting(unparse(term)).strip("\n").encode(), b"", indent)
+            return indented(self.fitting(unparse(term)).strip("\n").encode(), b"", indent)
         pieces: list[Piece] = []
         blocks: list[Term] = []
         stub = self._stub(term, pieces, blocks, indent)
@@ -151,14 +136,14 @@ class Fresh:
         text = self.fitting(text).strip("\n")
         needed = brackets.needed(filled(text, pieces)) or set()
         if not blocks:
-            text = filled(self._trees.indented(text.encode(), b"", indent).decode(), pieces)
+            text = filled(indented(text.encode(), b"", indent).decode(), pieces)
             return brackets.written(text, needed).encode()
         lines: list[bytes] = []
         for line in text.split("\n"):
             found = re.fullmatch(r"( *)_block_(\d+)_", line)
             if found:
                 level = indent + self._trees.tokens.unit * (len(found.group(1)) // 4)
-                lines.append(level + self.blocks.rendered(blocks[int(found.group(2))].children, level))
+                lines.append(level + self.rendered(blocks[int(found.group(2))].children, level))
             else:
                 level = indent + self._trees.tokens.unit * ((len(line) - len(line.lstrip(" "))) // 4)
                 lines.append(level + brackets.written(filled(line.lstrip(" "), pieces), needed).encode())

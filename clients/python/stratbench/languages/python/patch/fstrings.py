@@ -106,22 +106,15 @@ class Reader:
             while self.text[at : at + 1] != b"}":
                 if self.text.startswith(quote, at):
                     raise Cannot
-                at = self._field(at, is_raw, quote).last if self.text[at : at + 1] == b"{" else self._next(at, is_raw, False, quote, fields)
-            form = Literal(begin, at, quote, is_raw, True, self._fields(begin, at, is_raw, quote))
+                if self.text[at : at + 1] == b"{":
+                    fields.append(self._field(at, is_raw, quote))
+                    at = fields[-1].last
+                else:
+                    at = self._next(at, is_raw, False, quote, fields)
+            form = Literal(begin, at, quote, is_raw, True, fields)
         if self.text[at : at + 1] != b"}":
             raise Cannot
         return Field(first, at + 1, quote, (first + 1, end), shown, form)
-
-    # The fields in the format of a field.
-    def _fields(self, at: int, last: int, is_raw: bool, quote: bytes) -> list[Field]:
-        found: list[Field] = []
-        while at < last:
-            if self.text[at : at + 1] == b"{":
-                found.append(self._field(at, is_raw, quote))
-                at = found[-1].last
-            else:
-                at += 1
-        return found
 
     # Where the expression that begins at a place ends: before `}`, `:`, `!` or the `=` of `{x=}`.
     def _expression(self, at: int) -> int:
@@ -161,7 +154,6 @@ class Joined:
 
     def __init__(self, trees: Trees, fresh: Fresh, expression: Callable[[Source, Term, int], list[Edit]]) -> None:
         self._trees, self._fresh, self._expression = trees, fresh, expression
-
 
     def edits(self, old: Term, new: Term) -> list[Edit]:
         """The edits that make an f-string another."""

@@ -8,12 +8,23 @@ from collections.abc import Sequence, Set
 from itertools import count
 from typing import Final, NamedTuple
 
-from ....patch.fewest import fewest
+from ....patch.edits import Lines
+from ....patch.needed import Bracketed, Pair, needed
 from ....terms import LIST, Term, string
-from ..source import parse, unparse
+from ..source import CONSTRUCTORS, parse, to_term, unparse
 from .edits import EXPRESSIONS, LOAD, NONE, OPEN, PATTERNS, Cannot, Edit
 
 STRINGS: Final = re.compile(r"""('''|\"\"\"|'|")(?:\\.|(?!\1).)*\1""", re.DOTALL)
+
+
+# The same of bytes, and comments, in which quotation marks are none.
+_TEXTS: Final = rb"#[^\r\n]*|" + STRINGS.pattern.encode()
+
+
+def indented(text: bytes, old: bytes, new: bytes) -> bytes:
+    """A text with another indentation of its lines but the first. Those within strings stay."""
+    begin = rb"|(?P<end>\n|\r(?!\n))%s(?=[^\S\r\n]*\S)" % re.escape(old)
+    return text if old == new else re.sub(_TEXTS + begin, lambda it: it[0] if it["end"] is None else it["end"] + new, text, flags=re.DOTALL)
 
 
 class Piece(NamedTuple):
@@ -99,22 +110,34 @@ class Brackets:
     def needed(self, text: str) -> set[int] | None:
         """The pairs that a text of statements needs, so that its tree is the one that it has with all; or nothing where it has none then."""
         numbers = {int(it) for _, it in self._mark.findall(text)}
-        if not numbers or (wanted := self._tree(text, numbers)) is None:
+        wanted = _dumped(self.written(text, numbers)) if numbers else None
+        if wanted is None:
             return None
-        return set() if self._tree(text, set()) == wanted else fewest(numbers, lambda some: self._tree(text, some) == wanted)
+
+        def is_right(some: Set[int]) -> bool:
+            return _dumped(self.written(text, some)) == wanted
+
+        if is_right(set()):
+            return set()
+        return numbers if len(numbers) == 1 else needed(numbers, self._bracketed(text), _sort, _short_trees, is_right)
 
     def written(self, text: str, some: Set[int]) -> str:
         """The text with these pairs, and without the others."""
         return self._mark.sub(lambda it: it[1] if int(it[2]) in some else "", text)
 
-    def _tree(self, text: str, some: Set[int]) -> str | None:
-        try:
-            return ast.dump(parse(self.written(text, some)))
-        except SyntaxError:
-            return None
-
-    def without(self, text: str) -> str:
-        return self.written(text, set())
+    # The text with all pairs. Of several that begin at one place it doesn't matter which one's sign is which one's.
+    def _bracketed(self, text: str) -> Bracketed:
+        opened, pairs, removed = list[int](), dict[int, Pair](), 0
+        for it in re.finditer(self._mark.pattern.encode(), text.encode()):
+            place = it.start() - removed
+            removed += len(it[0]) - 1
+            if it[1] == b"(":
+                opened.append(place)
+            else:
+                first = opened.pop()
+                pairs[int(it[2])] = Pair((first, place + 1), (first + 1, place))
+        whole = self.written(text, pairs.keys())
+        return Bracketed(whole.encode(), to_term(parse(whole), Lines(whole.encode())), pairs)
 
 
 def filled(text: str, pieces: Sequence[Piece]) -> str:
@@ -132,3 +155,23 @@ def may_have_brackets(term: Term) -> bool:
     if term.head == "Tuple" and any(it.head == "Slice" for it in term.children[0].children):
         return False
     return term.head in EXPRESSIONS and term.head not in ("Starred", "Slice") or term.head in PATTERNS and term.head != "MatchStar"
+
+
+def _dumped(text: str) -> str | None:
+    try:
+        return ast.dump(parse(text))
+    except SyntaxError:
+        return None
+
+
+# Between which texts a node of a sort is a statement.
+_AROUND: Final = {"expr": ("(", ")"), "stmt": ("", ""), "keyword": ("f(", ")")}
+
+
+def _sort(node: Term) -> str | None:
+    sort = CONSTRUCTORS[str(node.head)].sort
+    return sort if sort in _AROUND else None
+
+
+def _short_trees(texts: Sequence[tuple[str, bytes]]) -> list[str | None]:
+    return [_dumped(_AROUND[sort][0] + text.decode() + _AROUND[sort][1]) for sort, text in texts]

@@ -2,27 +2,21 @@
 
 from __future__ import annotations
 
-from collections.abc import Sequence
+from collections.abc import Callable, Sequence
 from functools import cached_property
-from typing import Protocol
 
 from ....terms import Term
 from .edits import BLOCKS, DEFINITIONS, Edit, field_of, span
 from .fresh import Fresh
+from .markers import indented
 from .tokens import Token
 from .trees import Trees
 
 
-class Changes(Protocol):
-    """The edits within a statement, or those that make it anew."""
-
-    def statement(self, old: Term, new: Term, indent: bytes) -> list[Edit]: ...
-
-
 class Moved:
-    """The texts of statements, and what goes with them."""
+    """The texts of statements, and what goes with them. Given are the edits within a statement, or those that make it anew."""
 
-    statements: Changes
+    statement: Callable[[Term, Term, bytes], list[Edit]]
 
     def __init__(self, trees: Trees, fresh: Fresh) -> None:
         self._trees, self._fresh = trees, fresh
@@ -118,7 +112,7 @@ class Moved:
         else:
             edits = []
         for old, new in chunk:
-            edits += self.statements.statement(old, new, before)
+            edits += self.statement(old, new, before)
         heads: list[Token] = []
         if self._trees.leads(chunk[0][0]):
             begin = self._trees.leading_comments(begin)
@@ -139,7 +133,7 @@ class Moved:
         first, last = min([begin, *(it.first for it in edits)]), max([end, *(it.last for it in edits)])
         text = self._trees.copied(first, last, edits)
         text = text.lstrip(b" \t\f") if first < begin else text
-        return head + self._trees.indented(text.rstrip(b"\r\n") if last > end else text, before, indent)
+        return head + indented(text.rstrip(b"\r\n") if last > end else text, before, indent)
 
     # How many blank lines are before a definition, for one in a module and for one in a block.
     @cached_property

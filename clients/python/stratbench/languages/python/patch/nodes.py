@@ -9,7 +9,7 @@ from ..source import CONSTRUCTORS, position
 from ....terms import LIST, Term
 from .commas import Commas, same_shape
 from .edits import (
-    BLOCKS, COMMAS, COMPREHENSIONS, DEFINITIONS, DISPLAYS, OPERATIONS, OPERATORS, Cannot, Edit, apply_edits, field_of, is_same, operands, span,
+    BLOCKS, COMMAS, COMPREHENSIONS, DEFINITIONS, DISPLAYS, OPERATIONS, OPERATORS, Cannot, Edit, apply_edits, is_same, operands, span,
 )  # fmt: skip
 from .fresh import Fresh
 from .fstrings import Joined
@@ -19,8 +19,6 @@ from .trees import Trees
 
 # What is around the head of a statement, a handler or a case where it is parsed alone.
 _AROUND: Final = {"Match": ("", "\n case _: pass"), "ExceptHandler": ("try: pass\n", " pass"), "match_case": ("match _:\n ", " pass")}
-# The same of an element.
-_ELEMENTS: Final = {"List": ("[", "]"), "Tuple": ("[", "]"), "Set": ("[", "]"), "Dict": ("[", "]"), "Call": ("f(", ")")}
 
 
 class Parts(Protocol):
@@ -43,37 +41,17 @@ class Nodes:
 
     def settled(self, old: Term, new: Term) -> list[Edit]:
         """The edits within a statement, a handler or a case, with the brackets that its head needs."""
-        edits = self.inside(old, new)
-        if not self._are_open(edits):
+        edits, brackets = self.inside(old, new), self._trees.brackets
+        if not any(brackets.are_in(it.text) for it in edits):
             return edits
         first, last = self._trees.head(old)
         before, after = _AROUND.get(str(old.head), ("", " pass" if old.head in BLOCKS else ""))
         if old.head in DEFINITIONS and self._trees.indent(first):
             before = f"if 1:\n{self._trees.indent(first).decode()}"
-        return self._closed(edits, first, last, before, after) or self._with_brackets(edits, set())
-
-    # Whether it isn't known of all brackets if they are needed.
-    def _are_open(self, edits: list[Edit]) -> bool:
-        return any(self._trees.brackets.are_in(it.text) for it in edits)
-
-    # Edits with the brackets that the text from one place to another needs, between two others; or nothing where that is no text of Python's.
-    def _closed(self, edits: list[Edit], first: int, last: int, before: str, after: str) -> list[Edit] | None:
         text = apply_edits(self._trees.text, first, last, [it for it in edits if first <= it.first and it.last <= last]).decode()
-        needed = self._trees.brackets.needed(before + (text[2:] if text.startswith("elif") else text) + after)
-        return None if needed is None else self._with_brackets(edits, needed)
-
-    def _with_brackets(self, edits: list[Edit], needed: set[int]) -> list[Edit]:
-        found = [it._replace(text=self._trees.brackets.written(it.text.decode(), needed).encode()) for it in edits]
+        needed = brackets.needed(before + (text[2:] if text.startswith("elif") else text) + after) or set()
+        found = [it._replace(text=brackets.written(it.text.decode(), needed).encode()) for it in edits]
         return [it for it in found if it.first < it.last or it.text]
-
-    def element(self, owner: Term, old: Term, new: Term) -> list[Edit]:
-        """The edits for an element of a new node, which may be one of many. So its brackets are looked for in itself, if there are none around
-        it, nor was or is it a generator, which may have those of a call."""
-        edits = self.child(owner, old, new)
-        around = _ELEMENTS.get(str(owner.head))
-        if around is None or position(old) is None or "GeneratorExp" in (old.head, new.head) or not self._are_open(edits):
-            return edits
-        return edits if self._trees.tokens.are_around(*span(old)) else self._closed(edits, *span(old), *around) or edits
 
     def node(self, old: Term, new: Term) -> list[Edit]:
         """The edits that make the old node the new one, which stands in its place."""
@@ -97,9 +75,10 @@ class Nodes:
         edits = self.fields(old, new)
         at = OPERATIONS.get(str(old.head))
         if at is not None and old.children[at] is not new.children[at]:
-            # an operator that changes may bind its operands otherwise, so these may need brackets now
-            for it in operands(old):
-                edits += self._trees.brackets.around_edits(*span(it), [])
+            # an operator that changes may bind its operands otherwise, so these may need brackets now; others have some already
+            for it, other in zip(operands(old), operands(new)):
+                if _binding(it) == _binding(other):
+                    edits += self._trees.brackets.around_edits(*span(it), [])
         return edits
 
     def fields(self, old: Term, new: Term) -> list[Edit]:
@@ -143,14 +122,14 @@ class Nodes:
             return word
         if one.head == LIST and two.head == LIST:
             if len(one.children) == len(two.children):
-                return [edit for it, other in zip(one.children, two.children) if not is_same(it, other) for edit in self.element(new, it, other)]
+                return [edit for it, other in zip(one.children, two.children) if not is_same(it, other) for edit in self.child(new, it, other)]
             least = COMMAS.get((head, name))
             if least is None or len(two.children) < least or not one.children:
                 if (head, name) != ("List", "elts"):
                     raise Cannot
             inside = self._trees.inside_of(old) if head in DISPLAYS else span(old)
             elements = [self._commas.item(inside, it) for it in one.children]
-            return self._commas.items(new, inside, elements, [(it,) for it in two.children], trailing=head != "Delete")
+            return self._commas.items(new, inside, elements, [(it,) for it in two.children])
         return self.child(new, one, two)
 
     def child(self, owner: Term, old: Term, new: Term) -> list[Edit]:
@@ -183,7 +162,7 @@ class Nodes:
                 raise Cannot
             first, last = span(old)
             if name == "attr":
-                token = tokens.tokens[tokens.before(last)]
+                token = tokens.last_before(last)
             else:
                 at = tokens.after(first)
                 while tokens.tokens[at].text in ("async", "def", "class"):
@@ -195,7 +174,7 @@ class Nodes:
         if (head, name) == ("ExceptHandler", "name"):
             if not isinstance(one.head, bytes) or not isinstance(two.head, bytes):
                 raise Cannot
-            token = tokens.tokens[tokens.before(self._trees.colon(old))]
+            token = tokens.last_before(self._trees.colon(old))
             return [Edit(token.first, token.last, two.head)]
         if name == "names" and head in ("Global", "Nonlocal"):
             return self._names(old, one, two)
@@ -225,7 +204,7 @@ class Nodes:
     def _operators(self, old: Term, one: Term, two: Term) -> list[Edit]:
         head = str(old.head)
         if head == "UnaryOp":
-            token = self._trees.tokens.tokens[self._trees.tokens.after(span(old)[0])]
+            token = self._trees.tokens.first_after(span(old)[0])
             space = b" " if two.head == "Not" and self._trees.text[token.last : token.last + 1] not in b" \t(" else b""
             return [Edit(token.first, token.last, OPERATORS[str(two.head)].encode() + space)]
         if head == "BoolOp":
@@ -256,7 +235,7 @@ class Nodes:
         return (before + text + after).encode()
 
     def _annotation(self, old: Term, new: Term, one: Term, two: Term) -> list[Edit]:
-        token = self._trees.tokens.tokens[self._trees.tokens.after(span(old)[0])]
+        token = self._trees.tokens.first_after(span(old)[0])
         if one.head == "None":
             return [Edit(token.last, token.last, b": " + self._fresh.text(two, self._trees.frame(token.first)).encode())]
         if two.head == "None":
@@ -269,7 +248,7 @@ class Nodes:
             return [Edit(colon, colon, b" -> " + self._fresh.text(two, self._trees.frame(colon)).encode())]
         if two.head == "None":
             arrow = self._trees.tokens.back(span(one)[0], "->").first
-            return [Edit(self._trees.tokens.tokens[self._trees.tokens.before(arrow)].last, colon, b"")]
+            return [Edit(self._trees.tokens.last_before(arrow).last, colon, b"")]
         return self.child(new, one, two)
 
 

@@ -29,8 +29,8 @@ class Patcher:
         commas, moved = Commas(trees, fresh), Moved(trees, fresh)
         nodes = Nodes(trees, fresh, commas, Joined(trees, fresh, self._expression))
         self._statements = Statements(trees, fresh, nodes, moved)
-        fresh.nodes, fresh.displays, fresh.blocks = nodes, commas, moved
-        commas.nodes, moved.statements = nodes, self._statements
+        fresh.inside, fresh.display, fresh.rendered = nodes.inside, commas.display, moved.rendered
+        commas.child, commas.fields, moved.statement = nodes.child, nodes.fields, self._statements.statement
         nodes.clauses = Clauses(trees, fresh, commas, nodes, moved, self._statements)
 
     def edits(self) -> list[Edit]:
@@ -63,7 +63,7 @@ class Patcher:
         before = ends[at] if at >= 0 else 0
         if comment.first in self.trees.tokens.comment_lines:
             return Edit(max(before, self.trees.line_start(comment.first)), self.trees.line_end(comment.first)[1], b"")
-        return Edit(max(before, self.trees.tokens.tokens[self.trees.tokens.before(comment.first)].last), comment.last, b"")
+        return Edit(max(before, self.trees.tokens.last_before(comment.first).last), comment.last, b"")
 
     def _expression(self, source: Source, new: Term, offset: int) -> list[Edit]:
         source.encoding = self.trees.source.encoding

@@ -113,7 +113,7 @@ class Statements:
             alike = left.get(new[other].head, [])
             if not alike or self._trees.was(new[other]) is not None:
                 continue
-            part = self._trees.former.part_of(new[other])
+            part = self._trees.origins.first_in(new[other])
             owner = first if part is None else self._owner(old, goes, begins, part)
             place = bisect_left(alike, first if owner is None else max(owner, first))
             if owner is not None and place < len(alike) and (part is None or alike[place] == owner):
@@ -129,7 +129,7 @@ class Statements:
         units: list[tuple[int | None, list[Term]]] = []
         begins = [self._trees.begin(it) for it in old[first:last]]
         for it in comes:
-            part = self._trees.former.part_of(it)
+            part = self._trees.origins.first_in(it)
             owner = None if part is None else self._owner(old, range(first, last), begins, part)
             if units and owner is not None and units[-1][0] == owner:
                 units[-1][1].append(it)
@@ -186,7 +186,7 @@ class Statements:
             return self._deleted(old, first, last)
         if not simple and not self._trees.leads(old[0]):
             # a block in the line of its head
-            begin = self._trees.tokens.tokens[self._trees.tokens.before(self._trees.begin(old[0]))].last
+            begin = self._trees.tokens.last_before(self._trees.begin(old[0])).last
             return [Edit(begin, self._moved.end_with_comments(old[last - 1]), self._trees.newline + indent + self._moved.rendered(comes, indent))]
         if not self._trees.leads(old[first]) or self._trees.is_followed(old[last - 1]):
             if not simple:
@@ -200,9 +200,8 @@ class Statements:
         begin = self._moved.begin_with_comments(old[first])
         end = self._moved.end_with_comments(old[last - 1])
         text = self._moved.rendered(comes, indent)
-        semicolon = self._trees.tokens.after(end)
-        if comes[-1].head in BLOCKS and self._trees.tokens.text_at(semicolon) == ";":
-            end = self._trees.tokens.tokens[semicolon].last
+        if comes[-1].head in BLOCKS and self._trees.tokens.text_at(self._trees.tokens.after(end)) == ";":
+            end = self._trees.tokens.first_after(end).last
         line = self._trees.line_start(begin)
         above = self._moved.room(comes[0], indent) - self._trees.blanks_before(line)[0] if first else 0
         if above > 0:

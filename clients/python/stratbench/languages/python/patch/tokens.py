@@ -31,12 +31,11 @@ class Tokens:
         plain = [line.isascii() for line in flat]
         self.tokens: list[Token] = []
         self.comments: list[Token] = []
-        self.unit = b"    "
-        units: list[bytes] = []
+        self.unit = b""
         waiting = iter(flat)
         for kind, string_, (row, column), (end_row, end_column), _ in tokenize.generate_tokens(lambda: next(waiting, "")):
-            if kind == tokenize.INDENT and not units:
-                units.append(string_.encode())
+            if kind == tokenize.INDENT and not self.unit:
+                self.unit = string_.encode()
             if kind in (tokenize.INDENT, tokenize.DEDENT, tokenize.NL, tokenize.ENDMARKER):
                 continue
 
@@ -48,7 +47,7 @@ class Tokens:
 
             token = Token(kind, string_, offset(row, column), offset(end_row, end_column))
             (self.comments if kind == tokenize.COMMENT else self.tokens).append(token)
-        self.unit = units[0] if units else b"    "
+        self.unit = self.unit or b"    "
         self.firsts = [it.first for it in self.tokens]
         self.lasts = [it.last for it in self.tokens]
         ends = [at for at, it in enumerate(self.tokens) if it.kind == tokenize.NEWLINE]
@@ -90,6 +89,14 @@ class Tokens:
         """Whether round brackets are right before and after a text."""
         return self.text_at(self.before(first)) == "(" and self.text_at(self.after(last)) == ")"
 
+    def last_before(self, place: int) -> Token:
+        """The last token that ends at the place or before it."""
+        return self.tokens[self.before(place)]
+
+    def first_after(self, place: int) -> Token:
+        """The first token that begins at the place or after it."""
+        return self.tokens[self.after(place)]
+
     def between(self, first: int, last: int) -> list[Token]:
         """The tokens from one place to the other."""
         return self.tokens[self.after(first) : self.before(last) + 1]
@@ -101,24 +108,3 @@ class Tokens:
     def text_at(self, index: int) -> str:
         """The text of a token, or nothing where there is none."""
         return self.tokens[index].text if 0 <= index < len(self.tokens) else ""
-
-
-# The lines of a text of statements that begin within a string, counted from 0.
-def inner_lines(text: bytes, indented: bool) -> set[int]:
-    flat = re.sub(r"\r\n?", "\n", text.decode())
-    lines = [line + "\n" for line in (["if 1:"] if indented else []) + flat.split("\n")]
-    waiting = iter(lines)
-    inner: set[int] = set()
-    opened: list[int] = []
-    starts = getattr(tokenize, "FSTRING_START", None)
-    ends = getattr(tokenize, "FSTRING_END", None)
-    try:
-        for kind, _, (first, _), (last, _), _ in tokenize.generate_tokens(lambda: next(waiting, "")):
-            if kind == starts and starts is not None:
-                opened.append(first)
-            begin = opened.pop() if kind == ends and ends is not None and opened else first
-            if kind == tokenize.STRING or kind == ends:
-                inner.update(range(begin + 1, last + 1))
-    except (tokenize.TokenError, IndentationError):
-        return set(range(len(lines)))
-    return {row - 1 - indented for row in inner}

@@ -16,7 +16,7 @@ from .comments import Marks
 from .edits import BLOCKS, COMPREHENSIONS, DEFINITIONS, DISPLAYS, Cannot, Edit, apply_edits, field_of, normal, parts_of, span
 from .former import Former
 from .markers import Brackets
-from .tokens import Token, Tokens, inner_lines
+from .tokens import Token, Tokens
 
 
 class Trees:
@@ -27,9 +27,9 @@ class Trees:
         self.marks = marks or Marks(source.text)
         self.brackets = Brackets(self.marks.sign.decode())
         self.old = source.term
-        self._origins = Origins(self.old, CONSTRUCTORS)
-        self.origin, self.homes = self._origins.of, self._origins.homes
-        self.new = self._origins.shared(new, self.old, normal)
+        self.origins = Origins(self.old, CONSTRUCTORS)
+        self.origin, self.homes = self.origins.of, self.origins.homes
+        self.new = self.origins.shared(new, self.old, normal)
         # whether changed statements are made anew as a whole
         self.plain = False
         # the comments that go with statements to other places: by the pass before, and so far by this one, with the ids of the statements or
@@ -49,12 +49,12 @@ class Trees:
     @cached_property
     def former(self) -> Former:
         """What the new nodes were, which is asked only where they aren't old ones themselves."""
-        return Former(self.old, self.new, self.origin)
+        return Former(self.old, self.new, self.origins)
 
     @cached_property
     def owners(self) -> dict[int, Term]:
         """The literals and comprehensions that nodes, by their ids, are parts of."""
-        owners = (it for it in self._origins.found.values() if it.head in DISPLAYS or it.head in COMPREHENSIONS)
+        owners = (it for it in self.origins.found.values() if it.head in DISPLAYS or it.head in COMPREHENSIONS)
         return {id(part): it for it in owners for part in parts_of(it)}
 
     def tried(self, edits: Callable[[], list[Edit]]) -> list[Edit] | None:
@@ -81,7 +81,6 @@ class Trees:
         if comments:
             edits = [*edits, *self.marks.edits(comments, sorted(edits, key=lambda it: (it.first, it.last)))]
         return apply_edits(self.text, first, last, edits)
-
 
     # Places in the lines of the source.
 
@@ -172,6 +171,22 @@ class Trees:
             begin, line = start, above
         return place
 
+    # What lists ask of their surroundings.
+
+    def bare(self, first: int, last: int) -> bytes:
+        """Old text with blanks in the places of comments, and of the ends of lines that go on."""
+        blanks = [Edit(it.first, it.last, b" " * (it.last - it.first)) for it in self.tokens.comments_between(first, last)]
+        return re.sub(rb"\\\r?\n", lambda it: b" " * len(it[0]), apply_edits(self.text, first, last, blanks))
+
+    def leading(self, place: int) -> int:
+        """Where the comments above an element begin that is the first of its line."""
+        return self.leading_comments(place) if not self.text[self.line_start(place) : place].strip() else place
+
+    def trailing(self, place: int) -> int:
+        """Where the comment after an element ends, which is the last one of its line."""
+        comments = self.tokens.comments_between(place, self.line_end(place)[0])
+        return comments[0].last if comments and not self.text[place : comments[0].first].strip(b" \t,") else place
+
     def tail(self, place: int, indent: bytes, as_deep: bool, some: set[int] | None = None) -> int:
         """Where the comments end on the lines after that of a place, of all or of these: those deeper than an indentation, or as deep."""
         end, line = place, self.line_end(place)[1]
@@ -208,20 +223,6 @@ class Trees:
                 break
             ends.append(line)
         return ends
-
-    def indented(self, text: bytes, old: bytes, new: bytes, is_expression: bool = False) -> bytes:
-        """A text of statements, or of an expression, with another indentation. Lines within strings stay."""
-        if old == new or (b"\n" not in text and b"\r" not in text):
-            return text
-        lines = re.split(rb"(?<=\n)|(?<=\r)(?!\n)", text)
-        bare = self.brackets.without(text.decode()).encode()
-        inner = inner_lines(b"(" + bare + b")", False) if is_expression else inner_lines(old + bare, bool(old))
-        out = [lines[0]]
-        for at, line in enumerate(lines[1:], 1):
-            if at not in inner and line.strip() and line.startswith(old):
-                line = new + line[len(old) :]
-            out.append(line)
-        return b"".join(out)
 
     def inside_of(self, display: Term) -> tuple[int, int]:
         """The places between the brackets of a literal."""
