@@ -120,7 +120,7 @@ class Front:
 def tests(top, everything):
     work = zlib.compress(pickle.dumps(((3, 0), b"", ("", ""), b"")))
     ran = subprocess.run([sys.executable, "-c", cluster._PROCESS], input=work, capture_output=True)
-    yield "another version of Python", "" if ran.returncode == 1 and b", and not 3.0 as here" in ran.stderr else f"{ran.stderr}"
+    yield "another version of Python", "" if ran.returncode == 3 and b", and not 3.0 as here" in ran.stderr else f"{ran.stderr}"
     python, why = interpreter("distributed", "python3-distributed")
     if python is None:
         yield f"left out, since this machine lacks python3-distributed: {why}", "CI=true" if os.environ.get("CI") == "true" else ""
@@ -149,8 +149,16 @@ def spread(top, python):
         yield "each file was written once", "" if front.numbers() == {1} else f"{front.numbers()}"
         workers.worker("three", program="/none/stratbench")
         workers.wait(2)
-        got = front.run("--write", "--cluster", workers.address)
-        yield "a worker without the program", wanted(got, 3, None, "/none/stratbench") or ("" if front.numbers() == {1} else "a file changed")
+        status, out, said = front.run("--write", "--cluster", workers.address)
+        left_out = [line for line in said.splitlines() if "is left out: " in line]
+        rest = "".join(f"{line}\n" for line in said.splitlines() if line not in left_out)
+        yield "a worker without the program is named once", wanted((status, out, "\n".join(left_out)), 3, None, "/none/stratbench") or ("" if len(left_out) == 1 else said)
+        yield "the other does its files", "" if front.numbers() == {2} and rest == alone[2].replace(" would change, ", " changed, ") else f"{front.numbers()} {rest}"
+        with Workers(python) as others:
+            others.worker("four", program="/none/stratbench")
+            others.wait(1)
+            got = front.run("--write", "--cluster", others.address)
+        yield "no worker has the program", wanted(got, 3, "", "nothing was written: ") or ("" if front.numbers() == {2} else "a file changed")
 
 
 # Says whether what a language needs is there.

@@ -5,7 +5,7 @@ from __future__ import annotations
 
 import pickle
 import signal
-from collections.abc import Iterable, Iterator, Sequence
+from collections.abc import Callable, Iterable, Iterator, Sequence
 from concurrent.futures import ProcessPoolExecutor
 from concurrent.futures.process import BrokenProcessPool
 from itertools import repeat
@@ -22,10 +22,13 @@ _BYTES: Final = 1_000_000
 _SHARE: Final = 4
 
 
-def outcomes(work: Sequence[tuple[str, bytes]], task: Task, jobs: int, cluster: str | None = None) -> Iterator[Outcome]:
-    """Yields what comes of files, in their order. Raises `Lost` where a process or the cluster was lost."""
+def outcomes(
+    work: Sequence[tuple[str, bytes]], task: Task, jobs: int, cluster: str | None = None, say: Callable[[str], None] | None = None
+) -> Iterator[Outcome]:
+    """Yields what comes of files, in their order. Raises `Lost` where a process or the cluster was lost. `say` gets a line for each
+    worker of the cluster that is left out."""
     if cluster is not None:
-        with Cluster(cluster) as workers:
+        with Cluster(cluster, say) as workers:
             batches = [pickle.dumps((batch, tuple(task))) for batch in _batches(work, workers.threads())]
             for answer in workers.answers((__name__, "answered"), batches):
                 yield from (Outcome(*it) for it in pickle.loads(answer))
