@@ -293,9 +293,30 @@ def _wait(waiting: list[Term | str], terms: tuple[Term, ...]) -> None:
             waiting.append(",")
 
 
+# An escaped backslash, or escaped bytes that no ASCII character has.
+_ESCAPED_BYTES: Final = re.compile(r"\\\\|(?:\\[23][0-7]{2})+")
+
+
+def readable(text: str) -> str:
+    """Returns the text of a term with its escaped bytes as characters, where they are UTF-8 and can be seen. It spells the same term.
+
+    >>> readable(r'f("gr\\303\\274n \\377", "\\\\303")')
+    'f("grün \\\\377", "\\\\\\\\303")'
+    """
+    return _ESCAPED_BYTES.sub(_characters, text)
+
+
+def _characters(found: re.Match[str]) -> str:
+    if found[0] == "\\\\":
+        return found[0]
+    escaped = bytes(int(it, 8) for it in found[0].split("\\")[1:])
+    shown = escaped.decode(errors="surrogateescape")
+    return "".join(it if it.isprintable() else "".join(f"\\{byte:03o}" for byte in it.encode(errors="surrogateescape")) for it in shown)
+
+
 def cut(term: Term) -> str:
     """Returns the text of a term, or its beginning, for messages."""
-    text = write(term)
+    text = readable(write(term))
     return text if len(text) <= 100 else text[:97] + "..."
 
 

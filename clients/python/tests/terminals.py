@@ -24,7 +24,7 @@ def surroundings(top, folder, hidden=(), **more):
             it.write("raise ImportError\n")
     return {
         **os.environ, "PYTHONPATH": f"{folder}/hidden:{top}/clients/python", "HOME": folder, "XDG_STATE_HOME": f"{folder}/state",
-        "PROMPT_TOOLKIT_NO_CPR": "1", "TERM": "xterm", "COLUMNS": "100", "LINES": "40", "EDITOR": "sed -i 's/B()/f(B())/'", **more,
+        "PROMPT_TOOLKIT_NO_CPR": "1", "TERM": "xterm", "COLUMNS": "100", "LINES": "40", "EDITOR": "sed -i 's/B()/f(B())/'", "PAGER": "sed 's/^/paged: /'", **more,
     }  # fmt: skip
 
 

@@ -225,7 +225,7 @@ def replayed(top, python, name, *hidden):
 def typed(top, python, hidden):
     """Types everything at a shell. Returns the session, what is wrong with it, and what it dumps and can undo at its end."""
     with tempfile.TemporaryDirectory() as folder:
-        it = Terminal(top, python, folder, hidden)
+        it = Terminal(top, python, folder, hidden, PAGER="cat")
         session = Session(it)
         fault = dump = history = ""
         try:

@@ -235,7 +235,59 @@ def fifth(it, folder):
     it.do(":load ~/q.aterm", "^tree q")
 
 
-SCENES = (first, second, third, fourth, fifth)
+def sixth(it, folder):
+    """What names are, settings, and where what is shown goes."""
+    it.see(r"^> ?$")
+    it.do(":load arith.str", "^module arith")
+    it.do(r'tree t Plus(Zero,"gr\303\274n \377")', "^ok")
+    it.do("show t", r'^Plus\(Zero,"grün \\377"\)$')
+    it.do("pretty t", r'^Plus\(Zero,"grün \\377"\)$')
+    it.do(":set bytes on", "")
+    it.do("show t", r'^Plus\(Zero,"gr\\303\\274n \\377"\)$')
+    it.do("pretty t", r'^Plus\(Zero,"gr\\303\\274n \\377"\)$')
+    it.do(":set bytes off", "")
+    it.do("apply t at /1 do !\"\\303\\274\"", "^ok")
+    it.do(":diff", r'^tree t\n/1 in Plus\(Zero,_\)\n  - "grün \\377"\n  \+ "ü"$')
+    it.do("undo", "^ok")
+    it.do(":info Plus", r"^constructor Plus : e \* e -> e\n  in the module arith$")
+    it.do(":info Unit", r"^Unit : Plus\(Zero\(\),x\) -> x\n  in the module arith$")
+    it.do(":info t", r"^tree t: Plus\(..\), 3 terms, 2 levels$")
+    it.do(":info arith", "^module arith: 4 constructors, 1 definition$")
+    it.do(":info repeat", r"^repeat\(s\) =(?s:.*)\n  in the module library$")
+    it.do(":info no", "^there is no tree, module, constructor or definition no$")
+    it.do(":browse arith", r"^module arith\n  Plus : e \* e -> e\n  Zero : e\n  A : e\n  B : e\n  Unit \(rule\)$")
+    it.do(":browse no", "^there is no module no$")
+    it.do("show t > a.out", "^24 bytes$")
+    it.do(":brow arith >> a.out", r"^\d+ bytes$")
+    with open(f"{folder}/a.out") as file:
+        if file.read().split("\n")[:2] != ['Plus(Zero,"grün \\377")', "module arith"]:
+            raise Unlike("the file has something else")
+    it.do("show u > b.out", "^refused 5 notree")
+    if os.path.exists(f"{folder}/b.out"):
+        raise Unlike("a refused command has written a file")
+    it.do("show t | tr P p | head -1", r'^plus\(Zero,"grün')
+    it.do("show t | false", "^`false` ended with the status 1$")
+    it.do("text arith > /none/there", "^/none/there: No such file or directory$")
+    it.do("apply t do id > a.out", "^refused 10 syntax")
+    # long texts go through the pager
+    it.do(f"tree long [{','.join(f'{number:020}' for number in range(10 ** 12, 10 ** 12 + 60))}]", "^ok")
+    it.do("show long", r"^paged: \[\npaged:   1000000000000,")
+    it.do(":set pager off", "")
+    it.do("show long", r"^\[\n  1000000000000,")
+    it.do(":set", "^depth 12\npager off\ntiming off\nbytes off$")
+    it.do(":set timing on", r"^took 0\.\d\d s$")
+    it.do(":set timing", "^timing is `on` or `off`$")
+    it.do(":set no on", "^there is no setting no: there are depth, pager, timing, bytes$")
+    # a command that takes long says how long
+    os.kill(it.program(), signal.SIGSTOP)
+    it.at = len(it.seen)
+    it.type("show t\n")
+    it.see("^2 s; Ctrl-C stops it")
+    os.kill(it.program(), signal.SIGCONT)
+    it.see(r"Plus\(Zero(?s:.*)\ntook [2-9].\d\d s\n> ?$")
+
+
+SCENES = (first, second, third, fourth, fifth, sixth)
 
 
 def screens(top, python, scenes, name, hidden=(), **more):

@@ -16,7 +16,7 @@ import sys
 from collections.abc import Sequence
 
 from .. import Ended
-from ..installed import command
+from ..installed import command, version
 from ..settings import BadSettings, settings_of
 from .commands import Quit, Shell
 from .lines import Reader, reader
@@ -30,8 +30,13 @@ def _arguments(words: Sequence[str] | None) -> argparse.Namespace:
     parser.add_argument("--max-steps", type=int, metavar="N", help="the greatest budget, from 1,000,000 to 4,000,000,000")
     parser.add_argument("--max-terms", type=int, metavar="N", help="the greatest size of a term, from 100,000 to 1,000,000,000")
     parser.add_argument("--program", metavar="FILE", help="stratbench, where it isn't in PATH or STRATBENCH")
+    parser.add_argument("--version", action="store_true", help="say the version, and do nothing else")
     parser.add_argument("files", nargs="*", metavar="FILES", help="modules and trees to load, as :load does, else those of stratbench.json")
-    return parser.parse_args(words)
+    found = parser.parse_args(words)
+    if found.version:
+        print(version("stratbench-shell"))
+        sys.exit()
+    return found
 
 
 # Where the histories are kept, if there can be any.
@@ -84,7 +89,7 @@ def main(words: Sequence[str] | None = None) -> int:
         print(error, file=sys.stderr)
         return 2
     colours = sys.stdout.isatty() and os.environ.get("TERM") != "dumb" and not os.environ.get("NO_COLOR")
-    shell = Shell(session, _say, colours)
+    shell = Shell(session, _say, colours, sys.stdout.isatty() and sys.stdin.isatty())
     if sys.stdin.isatty():
         _say("stratbench: a line is a command; :help lists them, Ctrl-D ends")
     if given.files or settings.is_there:

@@ -21,11 +21,13 @@ from ..places import shown
 from ..python import deep
 from ..settings import NAME as SETTINGS
 from ..settings import BadSettings, settings_of
-from ..terms import Term, read
+from ..terms import Term, read, readable
+from .browsing import described, listed
 from .completion import Candidate, Completer
+from .output import Clock, Target, deliver, is_long, page, split_target
 from .session import Again, Gone, Loaded, Refusal, RefusedFile, Session
 from .syntax import FORMS, of_script
-from .view import Marked, Paint, against, changed, differences, folded, lines, plain, surroundings
+from .view import Marked, Paint, against, changed, differences, folded, lines, plain, surroundings, with_characters
 
 # The shell's own commands, with their forms and what they do.
 OWN: Final = {
@@ -39,7 +41,10 @@ OWN: Final = {
     "diff": ("", "what the last step changed"),
     "why": ("", "the last refusal again"),
     "profile": ("N [at P] [within K] do S", "where the steps of that `apply` would go, which isn't done"),
+    "info": ("NAME", "what a tree, a module, a constructor or a definition is"),
+    "browse": ("[MODULE]", "what a module declares and defines, or all modules"),
     "depth": ("N", "show trees down to N levels; 0 shows all"),
+    "set": ("[NAME VALUE]", "the settings, or another value for one: depth, pager, timing, bytes"),
     "help": ("", "this list"),
     "quit": ("", "end, as Ctrl-D does"),
 }
@@ -48,6 +53,7 @@ Other lines are commands of the workbench:
 {forms}
 N and C are names, P is a path as /0/2, T a term, M the text of a module, S a strategy, K a number.
 A command goes on over lines while brackets are open; `module N` and `tree N` alone go on, too. An empty line ends them.
+After a command that shows something `> FILE`, `>> FILE` and `| PROGRAM` say where that goes.
 Tab completes. Ctrl-R searches what was typed. Ctrl-C cancels a line, or stops a run that takes long; the session is then as before it."""
 # A text larger than this is shown without its changes in colour.
 _LARGE: Final = 1_000_000
@@ -58,6 +64,10 @@ _STEP = 90
 _WIDE = 100
 
 
+# Commands that go on by themselves, or have the terminal: what they show isn't kept for a pager.
+_AT_ONCE: Final = (":load", ":reload", ":run", ":edit", ":quit")
+
+
 class Quit(Exception):
     """The end of the shell."""
 
@@ -65,8 +75,13 @@ class Quit(Exception):
 class Shell:
     """What the commands at a terminal mean in a session. Texts are shown by `say`, with `colours` where there can be some."""
 
-    def __init__(self, session: Session, say: Callable[[str], None], colours: bool = False) -> None:
-        self.session, self.say, self.colours = session, say, colours
+    def __init__(self, session: Session, say: Callable[[str], None], colours: bool = False, at_terminal: bool = False) -> None:
+        self.session, self._say, self.colours = session, say, colours
+        # whether texts go to a terminal, and those that are kept until the command is done
+        self._at_terminal = at_terminal
+        self._kept: list[str] | None = None
+        self._clock = Clock(False)
+        self.switches = {"pager": True, "timing": False, "bytes": False}
         # whether a text can be edited where commands are typed, and the one with which the next command begins
         self.edits_here, self.begun = False, ""
         self.depth: int | None = 12
@@ -88,10 +103,8 @@ class Shell:
             self.say(self._again)
             self._again = ""
         try:
-            if command.lstrip().startswith(":"):
-                self._do_own(command.lstrip())
-            elif command.strip() and not command.startswith("#"):
-                self._do(command)
+            if command.strip() and not command.startswith("#"):
+                self._do_timed(command.lstrip())
         except (Refused, RefusedFile) as refused:
             self.last = str(refused)
             self.say(self.last)
@@ -113,6 +126,73 @@ class Shell:
             # a mistake of the shell doesn't end the session
             self.say(f"the shell has a fault: {type(error).__name__}: {error}")
         return True
+
+    def say(self, text: str) -> None:
+        """Shows a text, now or when the command is done."""
+        if self._kept is not None:
+            self._kept.append(text)
+        else:
+            self._clock.clear()
+            self._say(text)
+
+    # Does a command, shows what it says where that belongs, and how long it took, where that is wanted.
+    def _do_timed(self, command: str) -> None:
+        command, target = split_target(self._expanded(command))
+        at_once = command.split(None, 1)[0] in _AT_ONCE
+        with Clock(self._at_terminal and not at_once) as self._clock:
+            said = None if at_once else self._said(command, target is not None)
+            if at_once:
+                self._do_any(command)
+        if said is not None:
+            self._deliver(said, target)
+        if self.switches["timing"]:
+            self.say(f"took {self._clock.seconds:.2f} s")
+
+    # What a command says; for a file or a program without colours, and with nothing left out.
+    def _said(self, command: str, is_plain: bool) -> str:
+        before = self.colours, self.depth
+        if is_plain:
+            self.colours, self.depth = False, None
+        kept: list[str] = []
+        self._kept = kept
+        try:
+            self._do_any(command)
+            return "\n".join(kept)
+        except BaseException:
+            self._kept = None
+            for it in kept:
+                self.say(it)
+            raise
+        finally:
+            self._kept = None
+            if is_plain:
+                self.colours, self.depth = before
+
+    def _deliver(self, text: str, target: Target | None) -> None:
+        if target is not None:
+            text = deliver(text, target)
+        elif self._at_terminal and self.switches["pager"] and is_long(text) and page(text):
+            return
+        if text:
+            self.say(text)
+
+    def _do_any(self, command: str) -> None:
+        if command.startswith(":"):
+            self._do_own(command)
+        else:
+            self._do(command)
+
+    # A command of the shell with the whole of its word, of which the beginning is enough.
+    def _expanded(self, command: str) -> str:
+        if not command.startswith(":"):
+            return command
+        word, *rest = command[1:].split(None, 1) or [""]
+        found = [word] if word in OWN else [it for it in OWN if word and it.startswith(word)]
+        if not found:
+            raise Refusal(f"there is no :{word}; :help lists what there is")
+        if len(found) > 1:
+            raise Refusal(f":{word} may be {' or '.join(f':{it}' for it in found)}")
+        return " ".join([f":{found[0]}", *rest])
 
     def completions(self, text: str) -> list[Candidate]:
         """Returns what the last word of a text may become."""
@@ -137,6 +217,8 @@ class Shell:
             self._preview(command, words[1:2])
         elif words[0] == "show":
             self._show(command, words)
+        elif words[0] == "pretty" and not self.switches["bytes"]:
+            self.say(readable(self.session.run(command)))
         elif words[0] in ("module", "tree"):
             self._typed[words[1]] = command
             self.say(self.session.run(command))
@@ -155,12 +237,19 @@ class Shell:
 
     def _show(self, command: str, words: list[str]) -> None:
         text = self.session.run(command)
-        term, marks = read(text), None
+        term, marks = self._readable(read(text)), None
         if self.colours and len(text) < _LARGE:
             old = self.session.before(words[1], words[3] if len(words) > 3 else None)
             with deep():
-                marks = changed(old, term)[1] if old is not None else None
+                marks = changed(self._readable(old), term)[1] if old is not None else None
         self._say_term(term, marks)
+
+    # A term as it is shown: with the characters of strings, or their bytes.
+    def _readable(self, term: Term) -> Term:
+        if self.switches["bytes"]:
+            return term
+        with deep():
+            return with_characters(term)
 
     def _say_term(self, term: Term, marks: Marked) -> None:
         with deep():
@@ -175,7 +264,9 @@ class Shell:
 
     # Places of a tree, each with what is around it, and the old against the new.
     def _show_places(self, tree: Term, places: Iterable[Replacement]) -> None:
-        for it in places:
+        tree = self._readable(tree)
+        for place in places:
+            it = Replacement(place.path, self._readable(place.old), self._readable(place.new))
             path, width = "/" + "/".join(map(str, it.path)), self._width()
             with deep():
                 around = f" in {surroundings(tree, it.path, width - len(path) - len(' in '))}" if it.path else ""
@@ -189,21 +280,15 @@ class Shell:
         return (lambda text: f"\x1b[{colour}m{text}\x1b[m") if self.colours else plain
 
     def _do_own(self, command: str) -> None:
-        words = command[1:].split(None, 1)
-        word = words[0] if words else ""
-        found = [word] if word in OWN else [it for it in OWN if word and it.startswith(word)]
-        if not found:
-            raise Refusal(f"there is no :{word}; :help lists what there is")
-        if len(found) > 1:
-            raise Refusal(f":{word} may be {' or '.join(f':{it}' for it in found)}")
-        form, what = OWN[found[0]]
+        word, *rest = command[1:].split(None, 1)
+        form, what = OWN[word]
         # a strategy stays as it is
-        words = words[1:] if found[0] == "profile" else shlex.split(command[1:])[1:]
+        words = rest if word == "profile" else shlex.split(command[1:])[1:]
         try:
-            inspect.signature(self._own[found[0]]).bind(*words)
+            inspect.signature(self._own[word]).bind(*words)
         except TypeError:
-            raise Refusal(f"the form is `{f':{found[0]} {form}'.rstrip()}`: {what}") from None
-        self._own[found[0]](*words)
+            raise Refusal(f"the form is `{f':{word} {form}'.rstrip()}`: {what}") from None
+        self._own[word](*words)
 
     def do_help(self) -> None:
         for word, (form, what) in OWN.items():
@@ -223,10 +308,29 @@ class Shell:
     def do_profile(self, strategy: str) -> None:
         self.say(self.session.profile(f"preview {strategy}"))
 
+    def do_info(self, name: str) -> None:
+        self.say("\n".join(described(self.session, name)))
+
+    def do_browse(self, name: str = "") -> None:
+        self.say("\n".join(listed(self.session, name)) or "there is no module")
+
     def do_depth(self, number: str) -> None:
         if not number.isdigit():
             raise Refusal(f"{number} is no number of levels")
         self.depth = int(number) or None
+
+    def do_set(self, name: str = "", value: str = "") -> None:
+        if not name:
+            self.say(f"depth {self.depth or 0}")
+            self.say("\n".join(f"{name} {'on' if is_on else 'off'}" for name, is_on in self.switches.items()))
+        elif name == "depth":
+            self.do_depth(value)
+        elif name not in self.switches:
+            raise Refusal(f"there is no setting {name}: there are {', '.join(['depth', *self.switches])}")
+        elif value not in ("on", "off"):
+            raise Refusal(f"{name} is `on` or `off`")
+        else:
+            self.switches[name] = value == "on"
 
     # What the session's own steps were, from the start on, those that are undone after the others.
     def _steps(self) -> list[str]:

@@ -14,6 +14,9 @@ from .syntax import FORMS, RESERVED, commands, definitions
 from .view import brief
 
 
+_SETTINGS = ("depth", "pager", "timing", "bytes")
+
+
 class Candidate(NamedTuple):
     """A word that may stand there, as it is shown, and what is said of it."""
 
@@ -95,6 +98,14 @@ class Completer:
         elif first in (":save", ":edit") and not given:
             yield from self._names("tree")
             yield from self._names("module")
+        elif first == ":browse":
+            yield from self._names("module")
+        elif first == ":info":
+            yield from self._names("tree")
+            yield from self._names("module")
+            yield from (Candidate(it.text.rstrip("("), it.shown, it.about) for it in self._definitions("") if it.about != "reserved")
+        elif first == ":set":
+            yield from (Candidate(it, it) for it in (("on", "off") if given else _SETTINGS))
         elif first in (":load", ":run", ":save"):
             yield from _files(word)
 

@@ -3,10 +3,11 @@
 from __future__ import annotations
 
 from collections.abc import Callable, Iterable, Mapping, Sequence
+from operator import is_
 from typing import Dict, Literal, Optional
 
 from .. import Replacement
-from ..terms import LIST, TUPLE, Term, write
+from ..terms import LIST, TUPLE, Term, readable, write
 
 _MORE = Term("..")
 # Unchanged terms beside changed ones are shown to this depth, of a term with more children only the neighbours, and this much of a leaf.
@@ -34,6 +35,21 @@ class Marks(Dict[int, "Marks"]):
 
 Marked = Optional[Marks]
 _WHOLE = Marks(kind="whole")
+
+
+def with_characters(term: Term) -> Term:
+    """Returns the term with the characters of its strings in place of their bytes, to be shown.
+
+    >>> with_characters(Term("f", (Term("grün".encode()), Term(b"\\377"))))
+    f("grün","\\377")
+    """
+    head, children, annotations = term
+    if isinstance(head, bytes) and not head.isascii():
+        head = readable(write(Term(head)))
+    found = tuple(map(with_characters, children))
+    notes = tuple(map(with_characters, annotations))
+    is_same = head is term.head and all(map(is_, found, children)) and all(map(is_, notes, annotations))
+    return term if is_same else Term(head, found, notes)
 
 
 def folded(term: Term, depth: int | None, marks: Marked = None) -> tuple[Term, Marked]:
