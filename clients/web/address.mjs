@@ -25,8 +25,8 @@ export async function read(hash) {
   const found = /^#(z|j|example)=(.+)$/.exec(hash);
   if (!found) return null;
   const [, kind, text] = found;
-  if (kind === 'example') return { example: decodeURIComponent(text) };
   try {
+    if (kind === 'example') return { example: decodeURIComponent(text) };
     const bytes = fromBase64(text);
     const state = JSON.parse(decoder.decode(kind === 'j' ? bytes : await through(bytes, new DecompressionStream('deflate-raw'))));
     return isState(state) ? state : null;
@@ -38,7 +38,9 @@ export async function read(hash) {
 const isPair = it => Array.isArray(it) && it.length === 2 && it.every(word => typeof word === 'string');
 const isPairs = it => Array.isArray(it) && it.every(isPair);
 
+const isTry = it => ['tree', 'path', 'strategy'].every(name => typeof it?.[name] === 'string') && Number.isInteger(it.budget);
+
 function isState(it) {
-  return isPairs(it?.trees) && isPairs(it.modules) && ['tree', 'path', 'strategy'].every(name => typeof it[name] === 'string')
-    && Number.isInteger(it.budget);
+  return isTry(it) && isPairs(it.trees) && isPairs(it.modules) && ['undefined', 'string'].includes(typeof it.module)
+    && (it.tries === undefined || (Array.isArray(it.tries) && it.tries.every(isTry)));
 }

@@ -51,4 +51,7 @@ export class Client {
   }
 
   get isBusy() { return this.waiting.size > 0; }
+
+  /** Whether there is a worker. */
+  get isThere() { return this.worker !== undefined; }
 }

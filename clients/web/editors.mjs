@@ -56,16 +56,24 @@ const defineModes = () => {
 const unitsBefore = (line, column) => [...line].slice(0, column - 1).join('').length;
 
 /**
- * Makes an editor of a text field. `changed` is called as somebody types. Tab leaves the editor, as it leaves any field.
+ * Makes an editor of a text field. `changed` is called as somebody types. Tab leaves the editor, as it leaves any field. `complete` says
+ * which names begin with a text, `{name, said}`, and `explain` what a name means.
  */
-export function makeEditor(field, { mode, changed, numbers = true }) {
+export function makeEditor(field, { mode, changed, complete, explain, numbers = true }) {
   if (!window.CodeMirror) return plainEditor(field, changed);
   if (!window.CodeMirror.modes.strategies) defineModes();
+  const keys = complete ? { 'Ctrl-Space': () => completeAt(editor, complete) } : {};
   const editor = window.CodeMirror.fromTextArea(field, {
     mode, lineNumbers: numbers, lineWrapping: true, inputStyle: 'contenteditable', viewportMargin: 30, indentUnit: 2, spellcheck: false,
-    screenReaderLabel: field.getAttribute('aria-label'), extraKeys: { Tab: false, 'Shift-Tab': false },
+    screenReaderLabel: field.getAttribute('aria-label'), extraKeys: { Tab: false, 'Shift-Tab': false, ...keys },
     matchBrackets: Boolean(window.CodeMirror.prototype.matchBrackets),
   });
+  // what is typed into is an element of its own, which a screen reader has to know as a text field
+  const input = editor.getInputField();
+  for (const [name, word] of [['role', 'textbox'], ['aria-multiline', 'true'], ['aria-label', field.getAttribute('aria-label')]]) {
+    input.setAttribute(name, word);
+  }
+  if (explain) explainUnder(editor, explain);
   let isSetting = false;
   let marks = [];
   editor.on('change', () => { if (!isSetting) changed?.(editor.getValue()); });
@@ -83,11 +91,12 @@ export function makeEditor(field, { mode, changed, numbers = true }) {
       isSetting = false;
     },
     clear,
-    mark({ line, column }, isWarning) {
+    mark({ line, column }, title, isWarning = false) {
       const at = { line: line - 1, ch: unitsBefore(editor.getLine(line - 1) ?? '', column) };
       const end = /^(?:[A-Za-z_][\w'-]*|"(?:[^"\\]|\\.)*"?|\S)/.exec((editor.getLine(line - 1) ?? '').slice(at.ch))?.[0].length ?? 1;
       const from = (editor.getLine(line - 1) ?? '').length > at.ch ? at : { line: at.line, ch: Math.max(0, at.ch - 1) };
-      marks.push(editor.markText(from, { line: at.line, ch: at.ch + end }, { className: isWarning ? 'cm-warning' : 'cm-fault' }));
+      const shown = { className: isWarning ? 'cm-warning' : 'cm-fault', attributes: { title } };
+      marks.push(editor.markText(from, { line: at.line, ch: at.ch + end }, shown));
       if (!isWarning) {
         const handle = editor.addLineClass(line - 1, 'background', 'fault-line');
         if (handle) marks.push({ clear: () => editor.removeLineClass(handle, 'background', 'fault-line') });
@@ -100,9 +109,35 @@ export function makeEditor(field, { mode, changed, numbers = true }) {
     },
     refresh: () => editor.refresh(),
     focus: () => editor.focus(),
-    set label(text) { editor.getInputField().setAttribute('aria-label', text); },
-    set isReadOnly(is) { editor.setOption('readOnly', is); },
+    set label(text) { input.setAttribute('aria-label', text); },
+    set isReadOnly(is) {
+      editor.setOption('readOnly', is);
+      input.setAttribute('aria-readonly', String(is));
+    },
   };
+}
+
+/** Offers the names that begin with what is before the cursor. */
+function completeAt(editor, complete) {
+  const hint = () => {
+    const to = editor.getCursor();
+    const start = /[A-Za-z_][\w'-]*$/.exec(editor.getLine(to.line).slice(0, to.ch))?.[0] ?? '';
+    const list = complete(start).map(({ name, said }) => ({ text: name, displayText: said.startsWith(name) ? said : `${name}: ${said}` }));
+    return { list, from: { line: to.line, ch: to.ch - start.length }, to };
+  };
+  editor.showHint?.({ hint, completeSingle: false });
+}
+
+/** Shows what a name means where the mouse rests on it. What an underlined fault says goes first. */
+function explainUnder(editor, explain) {
+  const wrapper = editor.getWrapperElement();
+  wrapper.addEventListener('mousemove', ({ clientX, clientY, target }) => {
+    if (target.closest('[title]') && target.closest('[title]') !== wrapper) return;
+    const { line, ch } = editor.coordsChar({ left: clientX, top: clientY }, 'window');
+    const token = editor.getTokenAt({ line, ch: ch + 1 });
+    const isName = ['keyword', 'variable', 'variable-2', 'def'].includes(token.type);
+    wrapper.title = isName ? explain(token.string) : '';
+  });
 }
 
 function plainEditor(field, changed) {
@@ -117,7 +152,7 @@ function plainEditor(field, changed) {
     get value() { return field.value; },
     set value(text) { field.value = text; },
     clear() { field.removeAttribute('aria-invalid'); },
-    mark(_, isWarning) { if (!isWarning) field.setAttribute('aria-invalid', 'true'); },
+    mark(_, title, isWarning = false) { if (!isWarning) field.setAttribute('aria-invalid', 'true'); },
     go,
     refresh() {},
     focus: () => field.focus(),

@@ -24,12 +24,36 @@ export class Trap extends Error {
 /** A call that found no memory, or a budget out of range. */
 export class NotRun extends Error {}
 
+/** The first version of the module that this client speaks to, and the first one after it that it doesn't. */
+const FROM = [1, 2, 0];
+const BELOW = [2, 0, 0];
+
+/** A module of a version that this client doesn't speak to. */
+export class Misfit extends Error {
+  constructor(version) {
+    const what = version ? `is version ${version}` : 'says no version';
+    super(`the engine ${what}, and this client is for versions from ${FROM.join('.')} to below ${BELOW.join('.')}`);
+  }
+}
+
+/** Whether this client speaks to this version, as `1.2.0`. */
+export function fits(version) {
+  const numbers = version.split('.').map(Number);
+  const isBefore = other => {
+    const at = numbers.findIndex((it, i) => it !== other[i]);
+    return at >= 0 && numbers[at] < other[at];
+  };
+  return numbers.length === 3 && !isBefore(FROM) && isBefore(BELOW);
+}
+
 export class Engine {
-  /** Loads the module from its bytes or from a response. */
+  /** Loads the module from its bytes or from a response. Raises `Misfit` where it is of another version. */
   static async load(source, limit = LIMIT) {
     const { instance } = await instantiated(source);
-    instance.exports.stratbench_limit(BigInt(limit));
-    return new Engine(instance.exports);
+    const it = new Engine(instance.exports);
+    if (!fits(it.version())) throw new Misfit(it.version());
+    it.wasm.stratbench_limit(BigInt(limit));
+    return it;
   }
 
   constructor(wasm) {
@@ -38,6 +62,14 @@ export class Engine {
   }
 
   session() { return new Session(this); }
+
+  /** The version that the module says, or nothing. */
+  version() {
+    if (!this.wasm.stratbench_version) return '';
+    const memory = new Uint8Array(this.wasm.memory.buffer);
+    const at = Number(this.wasm.stratbench_version());
+    return decoder.decode(memory.slice(at, memory.indexOf(0, at)));
+  }
 
   /** The bytes in use. */
   used() { return Number(this.wasm.stratbench_used()); }
@@ -108,8 +140,11 @@ export class Session {
     this.engine = engine;
     this.handle = engine.room(Number(engine.call('stratbench_size')));
     engine.call('stratbench_new', this.handle);
-    engine.call('stratbench_explain', this.handle, form);
+    this.explain(form);
   }
+
+  /** Says in which form the calls that follow are explained. */
+  explain(form) { this.engine.call('stratbench_explain', this.handle, form); }
 
   /** Answers the commands of a script, which may go on over lines. `steps` is the budget of those that name none. */
   run(script, steps = 100000) {

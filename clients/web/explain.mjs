@@ -67,12 +67,16 @@ function told({ message, labels }, move) {
 /**
  * The entries of what was said: `{isWarning, reason, hints, place, module, isOfText, tell}`. `place` is the line and the column that it
  * speaks of. `module` is the module or tree that it is in, if that is named, and `isOfText` whether the place is one of the text that
- * the engine keeps, in which no line begins in the first column. `tell` returns the reason and the hints with places moved.
+ * the engine keeps, in which no line begins in the first column. `others` are the further faults, `{place, module, reason}`. `tell`
+ * returns the reason and the hints with places moved.
  */
 export function entriesOf(said) {
   return said.split('\n').filter(line => line.startsWith('{')).map(line => {
     const it = JSON.parse(line);
     const place = it.labels.find(label => label.line !== undefined);
+    const others = it.notes.filter(note => note.kind === 'fault').flatMap(note => note.labels.slice(0, 1)
+      .filter(label => label.line !== undefined)
+      .map(({ line, column, module }) => ({ place: { line, column }, module, reason: note.message })));
     const tell = move => ({ reason: told(it, move), hints: it.notes.map(note => told(note, move)) });
     return {
       isWarning: it.severity === 'warning',
@@ -82,6 +86,7 @@ export function entriesOf(said) {
       // a strategy that fails in a module isn't a fault of that
       module: place?.module ?? (it.number === CHECK ? it.module : undefined) ?? it.file,
       isOfText: place?.module !== undefined,
+      others,
     };
   });
 }

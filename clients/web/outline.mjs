@@ -95,6 +95,16 @@ export class Outline {
     });
   }
 
+  /** Opens what is around a subterm, chooses it, and brings it into view. */
+  reach(text) {
+    const path = readPath(text);
+    this.reveal(this.open, text);
+    path.forEach((_, depth) => this.opened.delete(pathText(path.slice(0, depth))));
+    this.path = text;
+    this.draw();
+    this.row(text)?.querySelector('.label').scrollIntoView({ block: 'nearest', inline: 'nearest' });
+  }
+
   isOpen(text) { return this.opened.get(text) ?? this.open.has(text); }
 
   draw() {

@@ -1,8 +1,8 @@
 // The page: opens an example or the case of its address, and says what buttons and keys do.
 
 import { addModule, addTree, remove } from './contents.mjs';
-import { apply, goTo, loadDrafts, preview, run, stop, time } from './runs.mjs';
-import { bench, client, names, page, writeAddress } from './state.mjs';
+import { apply, goTo, instead, loadDrafts, preview, run, stop, time, tryOut } from './runs.mjs';
+import { bench, client, leaveAddress, names, page, writeAddress } from './state.mjs';
 import { byId, showText, wireTextDialog } from './parts.mjs';
 import { check, sayFault } from './telling.mjs';
 import { choose, clearSaid, editors, notice, on, pathChanged, show, showTree, strategyChanged } from './view.mjs';
@@ -10,14 +10,15 @@ import { read } from './address.mjs';
 
 // ---- opening
 
-/** Opens a state: its trees and modules become a new session, which the timeline begins with. */
-async function open(state, hash) {
+/** Opens a state: its trees and modules become a new session, which the timeline begins with. A run that is going on is ended. */
+const open = (state, hash, said) => instead(async () => {
   const texts = { tree: new Map(state.trees), module: new Map(state.modules) };
   clearSaid();
   Object.assign(page, {
     tree: state.tree,
     module: state.module ?? state.modules.at(-1)?.[0] ?? '',
     drafts: { tree: new Map(texts.tree), module: new Map(texts.module) },
+    opened: page.opened + 1,
     order: { tree: [...texts.tree.keys()], module: [...texts.module.keys()] },
     marks: new Map(),
     isText: false,
@@ -32,28 +33,37 @@ async function open(state, hash) {
   byId('example').value = state.id ?? '';
   editors.strategy.value = state.strategy;
   bench.clear({ trees: [], modules: [] });
-  await run(async () => {
-    const faults = await bench.begin({ trees: state.trees, modules: state.modules });
-    page.drafts = { tree: new Map(), module: new Map() };
-    for (const { kind, name } of faults) page.drafts[kind].set(name, texts[kind].get(name));
-    for (const { kind, name, refusal } of faults.reverse()) sayFault(kind, name, refusal);
-  });
-}
+  if (!client.isThere) await client.start();
+  const faults = await bench.begin({ trees: state.trees, modules: state.modules });
+  page.drafts = { tree: new Map(), module: new Map() };
+  for (const { kind, name } of faults) page.drafts[kind].set(name, texts[kind].get(name));
+  for (const { kind, name, refusal } of faults.reverse()) sayFault(kind, name, refusal);
+  if (said) notice(said);
+});
 
-const exampleOf = id => page.examples.find(it => it.id === id) ?? page.examples[0];
+/** What an address opens, and what is said of that. */
+function stateOf(hash, found) {
+  if (!hash) return { state: page.examples[0], said: '' };
+  if (found && !('example' in found)) return { state: { ...found, about: 'A case that was sent in the address of this page.' }, said: '' };
+  const example = page.examples.find(it => it.id === found?.example);
+  if (example) return { state: example, said: '' };
+  return { state: page.examples[0], said: 'The address holds no case that this page can read, so an example is shown.' };
+}
 
 async function openAddress() {
   const { hash } = location;
   if (hash && hash === page.hash) return;
-  const state = await read(hash);
-  const isCase = state && !('example' in state);
-  await open(isCase ? { ...state, about: 'A case that was sent in the address of this page.' } : exampleOf(state?.example), hash);
-  if (hash && !state) notice('The address holds no case that this page can read, so an example is shown.');
+  leaveAddress();
+  const found = await read(hash);
+  // of several addresses one after the other the last is opened
+  if (hash !== location.hash) return;
+  const { state, said } = stateOf(hash, found);
+  await open(state, hash, said);
 }
 
 // ---- what is done
 
-function tryOut({ tree, path, budget, strategy }) {
+function take({ tree, path, budget, strategy }) {
   if (names('tree').includes(tree) && tree !== page.tree) choose('tree', tree);
   byId('path').value = path;
   byId('budget').value = budget;
@@ -79,15 +89,22 @@ function toggleText() {
   show();
 }
 
+function toggleBytes() {
+  page.isBytes = !page.isBytes;
+  page.marks = new Map();
+  show();
+}
+
 const back = () => bench.canUndo && run(() => goTo(bench.at - 1));
 const forth = () => bench.canRedo && run(() => goTo(bench.at + 1));
 
 /** Checks soon what is typed, unless something is run first. */
 function checkSoon(kind) {
   clearTimeout(page.checking);
-  page.checking = setTimeout(() => check(kind).catch(fault => {
+  const tried = kind === 'strategy' ? tryOut : () => check(kind);
+  page.checking = setTimeout(() => tried().catch(fault => {
     if (fault.kind === 'trapped') run(() => { throw fault; });
-  }), 700);
+  }), 500);
 }
 
 // ---- keys and buttons
@@ -115,7 +132,7 @@ function pressed(event) {
 }
 
 function wire() {
-  Object.assign(on, { edited: checkSoon, goTo: at => run(() => goTo(at)), tried: tryOut });
+  Object.assign(on, { edited: checkSoon, goTo: at => run(() => goTo(at)), tried: take });
   const clicks = {
     apply: () => run(apply),
     preview: () => run(preview),
@@ -128,6 +145,7 @@ function wire() {
     'tree-add': addTree,
     'tree-remove': () => remove('tree'),
     'tree-text': toggleText,
+    'tree-bytes': toggleBytes,
     'module-add': addModule,
     'module-remove': () => remove('module'),
   };
@@ -151,5 +169,8 @@ async function begin() {
   await openAddress();
   document.documentElement.dataset.ready = Math.round(performance.now());
 }
+
+// Without the network the page opens from what was kept. Over plain HTTP from another machine nothing can be kept.
+navigator.serviceWorker?.register('offline.js').catch(() => {});
 
 begin().catch(fault => notice(`The workbench can't start here: ${fault.message}`));

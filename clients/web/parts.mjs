@@ -48,19 +48,43 @@ export class Tabs {
   }
 }
 
-/** The steps as a row of buttons; the one that the session is at is marked. */
+/**
+ * The steps as a row of buttons; the one that the session is at is marked. Only what has changed is drawn anew: most of the time that is
+ * one step, and there may be hundreds.
+ */
 export function showTimeline(root, steps, at, go) {
-  const items = ['start', ...steps.map(it => it.label)].map((label, i) => {
-    const title = i > at ? `redo up to: ${label}` : label;
-    const step = made('button', { type: 'button', textContent: label, title, onclick: () => go(i) });
-    if (i === at) step.setAttribute('aria-current', 'step');
-    return made('li', { className: `${i > at ? 'later' : ''} ${steps[i - 1]?.kind ?? ''}` }, step);
-  });
+  root.onclick = ({ target }) => {
+    const item = target.closest('li');
+    if (item) go([...root.children].indexOf(item));
+  };
   const isFocused = root.contains(document.activeElement);
-  root.replaceChildren(...items);
-  const current = root.querySelector('[aria-current]');
-  if (isFocused) current.focus();
-  root.scrollTo({ left: current.parentElement.offsetLeft - root.clientWidth / 2 });
+  const items = [{ label: 'start', kind: '' }, ...steps];
+  while (root.childElementCount > items.length) root.lastElementChild.remove();
+  items.forEach(({ label, kind }, i) => {
+    const item = root.children[i] ?? root.appendChild(made('li', {}, made('button', { type: 'button' })));
+    showStep(item, { label, title: i > at ? `redo up to: ${label}` : label, className: `${i > at ? 'later' : ''} ${kind}`, isCurrent: i === at });
+  });
+  const current = root.children[at];
+  if (isFocused) current.firstElementChild.focus();
+  soon(root, () => root.scrollTo({ left: current.offsetLeft - root.clientWidth / 2 }));
+}
+
+function showStep(item, { label, title, className, isCurrent }) {
+  const step = item.firstElementChild;
+  if (step.textContent !== label) step.textContent = label;
+  if (step.title !== title) step.title = title;
+  if (item.className !== className) item.className = className;
+  if (step.hasAttribute('aria-current') === isCurrent) return;
+  if (isCurrent) step.setAttribute('aria-current', 'step');
+  else step.removeAttribute('aria-current');
+}
+
+const waiting = new WeakMap();
+
+/** Does something with an element before it is drawn next, once: to ask where it is has the browser lay the page out. */
+export function soon(element, act) {
+  cancelAnimationFrame(waiting.get(element));
+  waiting.set(element, requestAnimationFrame(act));
 }
 
 /** Says something in a pane: `kind` is `refused`, `warned` or empty. */

@@ -1,22 +1,42 @@
 // What the buttons do with the session: one thing at a time, each of which can be stopped.
 
-import { MOST, bench, client, page } from './state.mjs';
-import { button, byId, say, withCode } from './parts.mjs';
-import { clearSaid, editors, notice, saidOf, show, showButtons } from './view.mjs';
-import { MARKED, differences, pathText, readPath, readTerm } from './terms.mjs';
-import { sayFault, sayNotRun, sayRefusal, sayWarnings } from './telling.mjs';
+import { MOST, bench, client, page, shownTerm, shownText } from './state.mjs';
+import { button, byId, say, soon, withCode } from './parts.mjs';
+import { clearSaid, editors, notice, saidOf, show, showButtons, showTree } from './view.mjs';
+import { MARKED, differences, pathText, readPath } from './terms.mjs';
+import { check, sayFault, sayNotRun, sayRefusal, sayWarnings } from './telling.mjs';
 import { Broken } from './client.mjs';
 
 /** A run that takes longer than so many milliseconds shows a button to stop it. */
 const SOON = 150;
 
-/** Does something that calls the engine. A run that is stopped or breaks off ends in a session that is made again. */
-export async function run(act) {
-  if (page.isBusy) return;
+// What is being run, until it has ended.
+let running = Promise.resolve();
+
+/** Does something that calls the engine, unless something is being done. Resolves when it is done. */
+export function run(act) {
+  if (page.isBusy) return Promise.resolve();
+  running = alone(act);
+  return running;
+}
+
+/** Does something in place of what is being done, which is ended. What is made here has nothing of the session before it. */
+export async function instead(act) {
+  while (page.isBusy) {
+    page.isLeaving = true;
+    stop();
+    await running;
+  }
+  page.isLeaving = false;
+  await run(act);
+}
+
+// A run that is stopped or breaks off ends in a session that is made again.
+async function alone(act) {
   clearTimeout(page.checking);
   page.isBusy = true;
   showButtons();
-  const soon = setTimeout(() => {
+  const late = setTimeout(() => {
     byId('stop').hidden = false;
     byId('busy').textContent = 'Running…';
   }, SOON);
@@ -25,15 +45,20 @@ export async function run(act) {
   } catch (fault) {
     await recover(fault);
   } finally {
-    clearTimeout(soon);
+    clearTimeout(late);
     page.isBusy = false;
-    if (document.activeElement === byId('stop')) byId('apply').focus();
-    byId('stop').hidden = true;
-    byId('busy').textContent = '';
-    show();
-    // on a phone this may be below what is seen
-    if (saidOf('strategy').hasChildNodes()) saidOf('strategy').scrollIntoView({ block: 'nearest' });
+    // what is shown stays as it is where another session is about to begin
+    if (!page.isLeaving) showEnd();
   }
+}
+
+function showEnd() {
+  if (document.activeElement === byId('stop')) byId('apply').focus();
+  byId('stop').hidden = true;
+  byId('busy').textContent = '';
+  show();
+  // on a phone this may be below what is seen
+  if (saidOf('strategy').hasChildNodes()) soon(saidOf('strategy'), () => saidOf('strategy').scrollIntoView({ block: 'nearest' }));
 }
 
 export function stop() {
@@ -49,6 +74,7 @@ const CAUSES = {
 };
 
 async function recover(fault) {
+  if (page.isLeaving && fault instanceof Broken) return;
   if (!(fault instanceof Broken)) {
     notice(`This page has a fault: ${fault.message}`);
     console.error(fault);
@@ -155,8 +181,14 @@ export async function preview() {
     return;
   }
   page.isText = false;
-  const isShown = isSmall(changes);
-  for (const { path, before, after } of changes) {
+  sayChanges({ changes, steps, took }, isSmall(changes));
+}
+
+/** Marks what would be replaced, with both sides where these are shown, and says how much it is. */
+function sayChanges({ changes, steps, took }, isShown) {
+  page.marks = new Map();
+  for (const { path, ...sides } of changes) {
+    const [before, after] = [sides.before, sides.after].map(shownText);
     const told = { title: 'would be…', titles: ['now', 'after'], label: (_, it) => `would be ${it}` };
     page.marks.set(path, { kind: 'preview', before, after, isShown, ...told });
   }
@@ -166,6 +198,43 @@ export async function preview() {
   } else {
     say(saidOf('strategy'), '', `Would replace nothing: the strategy puts no term anywhere (${steps} steps).`);
   }
+}
+
+// ---- while a strategy is typed
+
+/** So many steps a strategy may take that is tried while it is typed. */
+const TRIED = 20000;
+
+/**
+ * Tries the strategy as it is typed, on the tree that is shown: what it would replace is marked. Where a text is edited that isn't
+ * loaded, or a field is wrong, it is only said of the strategy whether it would be refused.
+ */
+export async function tryOut() {
+  const path = readPath(byId('path').value.trim());
+  const areDrafts = page.drafts.tree.size || page.drafts.module.size;
+  if (areDrafts || !path || page.isText || !bench.trees.has(page.tree)) return check('strategy');
+  if (page.isBusy || client.isBusy || !page.isChecking || !editors.strategy.value.trim()) return undefined;
+  const { opened } = page;
+  const { at } = bench;
+  const step = { kind: 'apply', tree: page.tree, path: pathText(path), budget: TRIED, strategy: editors.strategy.value };
+  const found = await bench.preview(step);
+  const isSame = page.opened === opened && bench.at === at && page.tree === step.tree && editors.strategy.value === step.strategy
+    && byId('path').value.trim() === step.path;
+  if (page.isBusy || !isSame) return undefined;
+  sayTried(step, found);
+  return undefined;
+}
+
+function sayTried(step, found) {
+  const { refusal } = found;
+  if (!refusal) sayChanges(found, false);
+  else {
+    page.marks = new Map();
+    if ([8, 10, 11].includes(refusal.number)) sayRefusal('preview', step, refusal);
+    else if (refusal.number === 13) say(saidOf('strategy'), '', `It takes more than ${TRIED.toLocaleString('en')} steps: Preview shows what it does.`);
+    else say(saidOf('strategy'), '', ...withCode(`It would be refused (${refusal.word}): ${refusal.reason}`));
+  }
+  showTree();
 }
 
 /** Goes to a place in the timeline, and shows a tree that differs there. */
@@ -182,7 +251,7 @@ export async function goTo(at) {
 
 /** Marks where two trees differ. Returns at how many places, or MARKED where there are more. */
 function markChanges(before, after) {
-  const found = differences(readTerm(before), readTerm(after));
+  const found = differences(shownTerm(before), shownTerm(after));
   const isShown = isSmall(found);
   const told = { kind: 'changed', isShown, title: 'was…', titles: ['before', 'now'], label: it => `was ${it}` };
   page.marks = new Map(found.map(it => [pathText(it.path), { before: String(it.before), after: String(it.after), ...told }]));

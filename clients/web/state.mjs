@@ -2,7 +2,7 @@
 
 import { Bench } from './bench.mjs';
 import { Client } from './client.mjs';
-import { laidOut, readTerm, remembered } from './terms.mjs';
+import { laidOut, readTerm, remembered, withCharacters } from './terms.mjs';
 import { written } from './address.mjs';
 
 /** The largest budget. */
@@ -24,7 +24,8 @@ export const bench = new Bench(client);
 
 /**
  * `tree` and `module` are the ones that are shown. `drafts` are texts that were edited and aren't loaded, `faulty` the names of those
- * that were refused, and `marks` the places of the tree that are marked.
+ * that were refused, and `marks` the places of the tree that are marked. `isLeaving` says that the session is about to be left, and
+ * `opened` counts those that were begun.
  */
 export const page = {
   tree: '',
@@ -34,7 +35,10 @@ export const page = {
   order: { tree: [], module: [] },
   marks: new Map(),
   isText: false,
+  isBytes: false,
   isBusy: false,
+  isLeaving: false,
+  opened: 0,
   isTouched: false,
   isChecking: true,
   checking: undefined,
@@ -53,12 +57,18 @@ export function names(kind) {
   return page.order[kind].filter(it => there.has(it));
 }
 
+/** A printed term as it is shown: with the characters of its strings, or with their bytes. */
+export const shownText = text => (page.isBytes ? text : withCharacters(text));
+
+/** It as nodes. */
+export const shownTerm = text => readTerm(shownText(text));
+
 const overLines = remembered(text => laidOut(readTerm(text)));
 
 /** The text that is loaded, as an editor shows it; undefined where there is none. */
 export function loadedText(kind, name) {
   const text = loadedTexts(kind).get(name);
-  return text === undefined || kind === 'module' ? text : overLines(text);
+  return text === undefined || kind === 'module' ? text : overLines(shownText(text));
 }
 
 export const textOf = (kind, name) => page.drafts[kind].get(name) ?? loadedText(kind, name) ?? '';
@@ -80,14 +90,21 @@ let keeping;
 
 /** Has the address say soon what is there, if something was changed. */
 export function keepAddress() {
+  leaveAddress();
+  if (page.isTouched && !page.isLeaving) keeping = setTimeout(writeAddress, 300);
+}
+
+/** Has the address stay as it is. */
+export function leaveAddress() {
   clearTimeout(keeping);
-  if (page.isTouched) keeping = setTimeout(writeAddress, 300);
 }
 
 /** Has the address say what is there. Resolves to whether it could be that long. */
 export async function writeAddress() {
   const hash = await written(stateNow());
   if (hash.length > LONGEST) return false;
+  // another address was entered, and is about to be opened
+  if (location.hash !== page.hash) return true;
   page.hash = hash;
   history.replaceState(null, '', hash);
   return true;

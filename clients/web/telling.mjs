@@ -30,7 +30,11 @@ export function sayFault(kind, loaded, refusal) {
   showPane(kind);
   showTree();
   const place = refusal.place && placeInDraft(textOf(kind, name), refusal.place, refusal.isOfText);
-  if (place) editors[kind].mark(place);
+  if (place) editors[kind].mark(place, refusal.reason);
+  for (const it of refusal.others ?? []) {
+    const isOfText = it.module !== undefined;
+    if ((it.module ?? loaded) === name) editors[kind].mark(placeInDraft(textOf(kind, name), it.place, isOfText), it.reason);
+  }
   say(saidOf(kind), 'refused', ...refusalParts(refusal, place ? [goButton(kind, name, place)] : []));
 }
 
@@ -39,7 +43,7 @@ export function sayWarnings(kind, loaded, warnings) {
   const name = names(kind).includes(warnings[0].module) ? warnings[0].module : loaded ?? page[kind];
   if (kind === 'module') page.module = name;
   showPane(kind);
-  if (page[kind] === name) warnings.filter(it => it.place).forEach(it => editors[kind].mark(it.place, true));
+  if (page[kind] === name) warnings.filter(it => it.place).forEach(it => editors[kind].mark(it.place, it.reason, true));
   say(saidOf(kind), 'warned', ...warningParts(warnings, place => goButton(kind, name, place)));
 }
 
@@ -62,7 +66,8 @@ export function sayRefusal(word, step, refusal, again) {
   const buttons = [];
   if (refusal.place) {
     const place = move(refusal.place);
-    editors.strategy.mark(place);
+    editors.strategy.mark(place, moved.reason);
+    for (const it of refusal.others ?? []) if (it.module === undefined) editors.strategy.mark(move(it.place), it.reason);
     buttons.push(goButton('strategy', '', place));
   }
   if (refusal.number === 9) byId('path').setAttribute('aria-invalid', 'true');
@@ -90,11 +95,12 @@ function checking(kind, step) {
 export async function check(kind) {
   if (page.isBusy || client.isBusy || !page.isChecking) return;
   const name = page[kind];
+  const { opened } = page;
   const strategy = editors.strategy.value;
   const step = { kind: 'apply', tree: 'x', path: '/', budget: 1, strategy };
   const outcomes = await client.call('aside', checking(kind, step));
   const isSame = kind === 'strategy' ? editors.strategy.value === strategy : page[kind] === name;
-  if (page.isBusy || !isSame) return;
+  if (page.isBusy || !isSame || page.opened !== opened) return;
   if (kind === 'strategy') {
     const refusal = refused(outcomes.at(-1));
     const areLoaded = outcomes.slice(0, -1).every(it => it.status === 0);

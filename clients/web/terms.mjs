@@ -50,6 +50,29 @@ export function remembered(ask, most = 8) {
   };
 }
 
+const utf8 = new TextDecoder('utf-8', { fatal: true, ignoreBOM: true });
+// What is in quotes, and in it a run of escapes of bytes from 128 on, or another escape.
+const QUOTED = /"(?:[^"\\]|\\[^])*"/g;
+const BYTES = /((?:\\[23][0-7]{2})+)|\\[^]/g;
+// Characters that can't be seen, or turn the direction of a line.
+const UNSEEN = /[\p{C}\p{Z}]/u;
+
+const charactersOf = escapes => utf8.decode(Uint8Array.from(escapes.split('\\').slice(1), it => parseInt(it, 8)));
+const escaped = text => [...new TextEncoder().encode(text)].map(it => `\\${it.toString(8)}`).join('');
+
+function asText(quoted) {
+  try {
+    return quoted.replace(BYTES, (whole, escapes) => (escapes === undefined
+      ? whole
+      : [...charactersOf(escapes)].map(it => (UNSEEN.test(it) ? escaped(it) : it)).join('')));
+  } catch {
+    return quoted;
+  }
+}
+
+/** A printed term in which each string that is UTF-8 has its characters in place of the escapes of their bytes. It spells the same term. */
+export const withCharacters = remembered(text => (text.includes('\\') ? text.replace(QUOTED, asText) : text));
+
 /** Reads a printed term. Returns null where the text is none. */
 export const readTerm = remembered(read);
 

@@ -1,25 +1,32 @@
 // What the page shows: its panes, its editors and its steps.
 
+import { Find } from './find.mjs';
 import { Outline } from './outline.mjs';
 import { Tabs, button, byId, say, showTimeline, withCode } from './parts.mjs';
-import { bench, fields, keepAddress, loadedText, names, page, textOf } from './state.mjs';
+import { bench, fields, keepAddress, loadedText, names, page, shownTerm, textOf } from './state.mjs';
 import { labelOf } from './commands.mjs';
+import { completionsOf, meaningOf } from './names.mjs';
 import { makeEditor } from './editors.mjs';
-import { pathText, readPath, readTerm } from './terms.mjs';
+import { pathText, readPath } from './terms.mjs';
 
 /** What is done when something is chosen or typed; the page fills it in. */
 export const on = { edited() {}, goTo() {}, tried() {} };
 
-const outline = new Outline(byId('outline'), path => {
+const chosen = path => {
   byId('path').value = path;
   pathChanged();
   byId('tree-hint').replaceChildren(...withCode(`The strategy is applied at \`${path}\`.`));
-});
+};
+
+const outline = new Outline(byId('outline'), chosen);
+const find = new Find(outline, chosen);
+
+const known = { complete: completionsOf, explain: meaningOf };
 
 export const editors = {
   tree: makeEditor(byId('tree-input'), { mode: 'terms', changed: text => edited('tree', text) }),
-  module: makeEditor(byId('module-input'), { mode: 'strategies', changed: text => edited('module', text) }),
-  strategy: makeEditor(byId('strategy-input'), { mode: 'strategies', changed: strategyChanged, numbers: false }),
+  module: makeEditor(byId('module-input'), { mode: 'strategies', ...known, changed: text => edited('module', text) }),
+  strategy: makeEditor(byId('strategy-input'), { mode: 'strategies', ...known, changed: strategyChanged, numbers: false }),
 };
 
 const tabs = {
@@ -54,26 +61,33 @@ export function showPane(kind) {
   if (!all.includes(page[kind])) page[kind] = all.at(-1) ?? '';
   const name = page[kind];
   showTabs(kind);
-  editors[kind].value = name && textOf(kind, name);
+  // laying a large tree out as text takes long, and most of the time nobody looks at it
+  if (kind === 'module' || isTextShown()) editors[kind].value = name && textOf(kind, name);
   editors[kind].label = name ? `Text of the ${kind} ${name}` : `There is no ${kind}`;
   editors[kind].isReadOnly = !name;
   byId(`${kind}-remove`).disabled = !name;
 }
 
+const isTextShown = () => page.isText || !bench.trees.has(page.tree);
+
 export function showTree() {
   const text = bench.trees.get(page.tree);
-  const isText = page.isText || text === undefined;
+  const isText = isTextShown();
   byId('tree-editor').hidden = !isText;
   byId('outline-box').hidden = isText;
+  byId('find-box').hidden = isText;
   byId('tree-hint').hidden = isText;
   byId('tree-text').setAttribute('aria-pressed', String(isText));
+  byId('tree-bytes').setAttribute('aria-pressed', String(page.isBytes));
   if (isText) {
+    editors.tree.value = page.tree && textOf('tree', page.tree);
     editors.tree.refresh();
     return;
   }
   const path = readPath(byId('path').value);
-  outline.show(readTerm(text), { marks: page.marks, path: path ? pathText(path) : '/', keep: outline.name === page.tree });
+  outline.show(shownTerm(text), { marks: page.marks, path: path ? pathText(path) : '/', keep: outline.name === page.tree });
   outline.name = page.tree;
+  find.renew();
 }
 
 export function showButtons() {

@@ -1,24 +1,30 @@
-"""Tries the page in headless Chromium, for tools/web: browser.py ADDRESS [--program PROGRAM] [--shots FOLDER].
+"""Tries the page in headless Chromium, for tools/web: browser.py ADDRESS --folder FOLDER [--program PROGRAM] [--shots FOLDER].
+
+FOLDER has the page, which one trial serves itself.
 
 Each trial is a function whose name begins with `try_`; it is handed a page that was opened anew, and fails by an exception. Printed is a
 line for each and their count.
 """
 
 import argparse
+import functools
+import http.server
 import json
 import os
 import re
 import subprocess
 import sys
+import threading
 import time
 import traceback
 
 from selenium import webdriver
+from selenium.common.exceptions import StaleElementReferenceException
 from selenium.webdriver.chrome.service import Service
 from selenium.webdriver.common.by import By
 from selenium.webdriver.common.keys import Keys
 
-DESK, PHONE = (1280, 900), (390, 844)
+DESK, PHONE, NARROW = (1280, 900), (390, 844), (320, 640)
 TOUR, DONE = 'Plus(Times(Plus(2,3),Var("x")),Times(4,0))', 'Times(5,Var("x"))'
 WAIT = 60
 # A comparison of two long lists that are equal, again and again: a million steps of it take minutes.
@@ -84,9 +90,17 @@ class Page:
     def click(self, selector, waits=True):
         if waits and selector != "#stop":
             self.until_idle()
-        self.one(selector).click()
+        self.until(lambda: self.clicked(selector), f"{selector} is clicked")
         if waits:
             self.until_idle()
+
+    def clicked(self, selector):
+        """Clicks on an element, if it isn't drawn anew at this very moment."""
+        try:
+            self.one(selector).click()
+        except StaleElementReferenceException:
+            return False
+        return True
 
     def press(self, *keys):
         webdriver.ActionChains(self.driver).send_keys(*keys).perform()
@@ -130,6 +144,11 @@ class Page:
         self.js("document.getElementById('text-dialog').close()")
         return text
 
+    def read_out(self):
+        """What a screen reader is told of: the role and the name of each node."""
+        nodes = self.driver.execute_cdp_cmd("Accessibility.getFullAXTree", {})["nodes"]
+        return [(it["role"]["value"], it.get("name", {}).get("value", "")) for it in nodes if not it["ignored"] and "role" in it]
+
     def texts(self, selector):
         """The texts of all these elements, read at once: the page may draw them anew at any time."""
         return self.js("return [...document.querySelectorAll(arguments[0])].map(it => it.innerText)", selector)
@@ -144,7 +163,7 @@ class Page:
         return self.text(f"#{pane}-said")
 
     def marks(self):
-        return {it.get_attribute("data-path"): it.get_attribute("class") for it in self.all("#outline .marked")}
+        return self.js("return Object.fromEntries([...document.querySelectorAll('#outline .marked')].map(it => [it.dataset.path, it.className]))")
 
     def apply(self, strategy=None):
         if strategy is not None:
@@ -199,6 +218,33 @@ def try_timeline(page):
     same(page.steps(), ["start", "all(!1)", "all(!2)", "all(!4)"])
 
 
+def try_characters(page):
+    """Strings that are UTF-8 are shown as texts, with a switch for their bytes."""
+    page.click("#tree-text")
+    page.editor(".tree-pane", 'Plus("Grüße, 世界","a\\303","\\303","\\342\\200\\256x","\\"ü\\n")')
+    page.field("path", "/")
+    page.apply("id")
+    shown = ['"Grüße, 世界"', '"a\\303"', '"\\303"', '"\\342\\200\\256x"', '"\\"ü\\n"']
+    has(page.text("#outline"), *shown)
+    bytes_ = '"Gr\\303\\274\\303\\237e, \\344\\270\\226\\347\\225\\214"'
+    has(page.tree(), bytes_)
+    page.strategy('1(!"ö")')
+    page.click("#preview")
+    has(page.text("#outline .pair .new"), '"ö"')
+    page.click("#tree-bytes")
+    has(page.text("#outline"), bytes_)
+    assert "ü" not in page.text("#outline"), "a string is shown as text"
+    page.click("#tree-text")
+    has(page.editor(".tree-pane"), bytes_)
+    page.click("#tree-bytes")
+    has(page.editor(".tree-pane"), *shown)
+    # what is shown spells the same tree
+    before = page.tree()
+    page.editor(".tree-pane", page.editor(".tree-pane") + " ")
+    page.apply("id")
+    same(page.tree(), before)
+
+
 def try_preview(page):
     page.strategy("alltd(Fold)")
     page.click("#preview")
@@ -212,6 +258,76 @@ def try_preview(page):
     page.strategy("?_")
     page.click("#preview")
     has(page.said("strategy"), "Would replace nothing")
+
+
+def try_while_typing(page):
+    """A strategy is tried as it is typed, and nothing is changed."""
+    page.strategy("alltd(Fold)")
+    page.until(lambda: "Would replace 2 places" in page.said("strategy"), "what it would replace is said")
+    same(sorted(page.marks()), ["/0/0", "/1"])
+    for strategy, said in (("Fold", "It would be refused (fails)"), ("rec x(id; x)", "It takes more than 20,000 steps"), ("id", "Would replace nothing")):
+        page.strategy(strategy)
+        page.until(lambda: said in page.said("strategy"), f"{said} is said of {strategy}")
+        same(page.marks(), {})
+    page.strategy("topdown(try(Fould)); Foold")
+    page.until(lambda: "Refused (unknown)" in page.said("strategy"), "the fault is said")
+    same(page.texts(".strategy-pane .cm-fault"), ["Fould", "Foold"])
+    for number, name in enumerate(("Fould", "Foold")):
+        has(page.all(".strategy-pane .cm-fault")[number].get_attribute("title"), name)
+    same((page.tree(), page.steps()), (TOUR, ["start"]))
+    # in a text that isn't loaded, whether it would be refused
+    page.editor(".module-pane", page.editor(".module-pane") + "\n  twice(s) = s; s")
+    page.strategy("twice(id, id)")
+    page.until(lambda: "Refused (unknown)" in page.said("strategy"), "the fault is said of what isn't loaded")
+
+
+def try_names_of_tokens(page):
+    """A name is completed, and what it means is shown where the mouse rests on it."""
+    page.strategy("")
+    page.js("document.querySelector('.strategy-pane .CodeMirror').CodeMirror.focus()")
+    page.type_into(".strategy-pane", "inn")
+    page.press_with(Keys.CONTROL, Keys.SPACE)
+    page.until(lambda: page.texts(".CodeMirror-hint"), "names are offered")
+    same(page.texts(".CodeMirror-hint"), ["innermost(s): a strategy of library"])
+    page.press(Keys.ENTER)
+    same(page.editor(".strategy-pane"), "innermost")
+    for text, said in (("normalise", "normalise: a strategy of arith, line "), ("Fold", "Fold: a rule of arith, line "), ("Plus", "Plus : exp * exp -> exp: a constructor"), ("id", "succeeds")):
+        page.strategy(f"{text} ")
+        token = page.one(".strategy-pane .CodeMirror-line span span")
+        webdriver.ActionChains(page.driver).move_to_element(token).perform()
+        page.until(lambda: said in (page.one(".strategy-pane .CodeMirror").get_attribute("title") or ""), f"what {text} means is shown", 5)
+
+
+def try_find(page):
+    """Names, strings and integers are found in the tree, by the mouse and by keys."""
+    field = page.one("#find")
+    value = lambda: page.js("return document.getElementById('path').value")
+    field.send_keys("Plus")
+    same((page.text("#found"), value()), ("1 of 2", "/"))
+    field.send_keys(Keys.ENTER)
+    same((page.text("#found"), value()), ("2 of 2", "/0/0"))
+    field.send_keys(Keys.SHIFT, Keys.ENTER)
+    same((page.text("#found"), value()), ("1 of 2", "/"))
+    page.click("#find-before")
+    same((page.text("#found"), value()), ("2 of 2", "/0/0"))
+    page.strategy("Fold")
+    page.click("#apply")
+    same(page.tree(), 'Plus(Times(5,Var("x")),Times(4,0))')
+    same(page.text("#found"), "1")
+    field.send_keys("!")
+    same(page.text("#found"), "no match")
+    field.send_keys(Keys.ESCAPE)
+    same((field.get_attribute("value"), page.text("#found")), ("", ""))
+    # one that isn't drawn yet
+    page.click("#tree-text")
+    page.editor(".tree-pane", "[" + ",".join(f"g({it},a)" for it in range(13000)) + "]")
+    page.click("#tree-text")
+    field.send_keys("12999")
+    same((page.text("#found"), value()), ("1 of 1", "/12999/0"))
+    seen = page.js("""const it = document.querySelector('#outline [data-path="/12999/0"] .label').getBoundingClientRect();
+        const box = document.getElementById('outline-box').getBoundingClientRect();
+        return it.top >= box.top && it.bottom <= box.bottom + 1""")
+    same(seen, True)
 
 
 def try_path(page):
@@ -412,6 +528,56 @@ def try_address(page):
     same(page.tree(), TOUR)
 
 
+def try_address_in_mid_run(page):
+    """Another example, or another case, at ten moments of a run: what is shown is what the session has."""
+    page.click("#tree-text")
+    page.editor(".tree-pane", "[" + ",".join(["1"] * 3000) + "]")
+    page.click("#tree-text")
+    case = page.shown("#share").partition("#")[2]
+    for moment in range(10):
+        hash_, first = (("#example=polynomials", "left"), (f"#{case}", "e"))[moment % 2]
+        page.open(f"#{case}" if moment % 2 == 0 else "#example=dead-code")
+        page.field("budget", 1000000)
+        # it takes long enough for all of the moments, and ends in steps, in a refusal or by being ended
+        page.strategy(("topdown(try(?1; !2))", "repeat(id)", ENDLESS, "!(1,1)")[moment % 4])
+        page.js("""document.getElementById('apply').click();
+            setTimeout(() => { location.hash = arguments[0]; }, arguments[1])""", hash_, moment * 25)
+        page.until(lambda: page.texts("#tree-tabs button")[:1] == [first] and not page.js("return location.hash !== arguments[0]", hash_), f"{hash_[:30]} is opened")
+        page.until_idle()
+        same(page.steps(), ["start"])
+        dump = page.shown("#dump")
+        for name in page.texts("#tree-tabs button"):
+            has(dump, f"tree {name} ")
+        same(len(re.findall(r"^tree ", dump, re.MULTILINE)), len(page.texts("#tree-tabs button")))
+        same(page.one("#notice").is_displayed(), False)
+        shown = page.text("#tree-tabs [aria-selected=true]")
+        page.click("#tree-text")
+        text = re.search(rf"^tree {re.escape(shown)} (.*)$", dump, re.MULTILINE)[1]
+        same(re.sub(r"\s", "", page.editor(".tree-pane")), re.sub(r"\s", "", text))
+        page.click("#tree-text")
+        page.apply("id")
+        has(page.said("strategy"), "Applied")
+    # several at once: the last is opened
+    page.js("for (const it of ['tour', 'dead-code', 'normal-form', 'polynomials']) location.hash = `example=${it}`")
+    page.until(lambda: page.texts("#tree-tabs button")[:1] == ["left"], "the last is opened")
+    page.until_idle()
+    has(page.shown("#dump"), "tree left ")
+
+
+def try_damaged_addresses(page):
+    """An address that holds no case opens the page with a sentence."""
+    page.apply("all(!1)")
+    state = {"trees": [["t", "1"]], "modules": [], "tree": "t", "path": "/", "budget": 10, "strategy": "id"}
+    spelled = lambda it: "#j=" + page.js("return btoa(arguments[0])", json.dumps(it)).replace("=", "")
+    page.open(spelled(state))
+    same(page.tree(), "1")
+    wrong = [{**state, "tries": 5}, {**state, "tries": [{"tree": 1}]}, {**state, "module": 7}, {**state, "trees": "t"}, {**state, "budget": "x"}, 7, None, []]
+    for hash_ in ("#example=%", "#example=nothing", "#z=%%", "#j=", "#nothing", *map(spelled, wrong)):
+        page.open(hash_)
+        has(page.text("#notice"), "no case that this page can read")
+        same(page.tree(), TOUR)
+
+
 def try_faults_in_address(page):
     """A case that is sent with faults is shown with them."""
     page.editor(".module-pane", "rules\n  Bad : Plus(x -> x")
@@ -510,6 +676,47 @@ def try_names_for_readers(page):
     has(page.one("#outline .marked").get_attribute("aria-label"), "would be Times(5,Var(\"x\"))")
 
 
+def try_editors_for_readers(page):
+    """Editors are text fields with names, in the tree that screen readers are given."""
+    page.click("#tree-text")
+    fields = [name for role, name in page.read_out() if role == "textbox"]
+    for wanted in ("Strategy to apply", "Text of the tree e", "Text of the module arith", "at path"):
+        assert wanted in fields, f"there is no text field {wanted!r} in {fields}"
+    page.click("#module-tabs button:first-child")
+    assert "Text of the module library" in [name for role, name in page.read_out() if role == "textbox"], "the name stays that of another module"
+    nameless = {role for role, name in page.read_out() if not name.strip() and role in ("textbox", "button", "combobox", "spinbutton", "tab", "treeitem")}
+    same(nameless, set())
+
+
+def try_sizes_of_text(page):
+    """A reader who wants larger text by default gets all of it larger."""
+    sizes = "return ['body', '#outline', '.strategy-pane .CodeMirror', '#apply', '.hint'].map(it => parseFloat(getComputedStyle(document.querySelector(it)).fontSize))"
+    usual = page.js(sizes)
+    try:
+        page.driver.execute_cdp_cmd("Page.setFontSizes", {"fontSizes": {"standard": 32, "fixed": 26}})
+        page.open()
+        # twice as large, and then as on a phone, where they differ a little
+        found = page.js(sizes)
+        assert all(one >= 1.9 * other for one, other in zip(found, usual)), f"{found}, and {usual} by default"
+    finally:
+        page.driver.execute_cdp_cmd("Page.setFontSizes", {"fontSizes": {"standard": 16, "fixed": 13}})
+
+
+def try_policy(page):
+    """The page runs what comes from its server alone."""
+    ran = page.driver.execute_async_script("""const [done] = arguments;
+        const it = document.createElement('script');
+        it.textContent = 'window.ranInline = true';
+        document.body.append(it);
+        const image = new Image();
+        image.onload = () => done([window.ranInline, 'loaded']);
+        image.onerror = () => done([window.ranInline, 'refused']);
+        image.src = 'data:image/gif;base64,R0lGODlhAQABAAAAACwAAAAAAQABAAA='""")
+    same(ran, [None, "refused"])
+    told = [it["message"] for it in page.driver.get_log("browser")]
+    same(len([it for it in told if "Content Security Policy" in it]), 2)
+
+
 def try_without_codemirror(page):
     """Where CodeMirror isn't at hand, plain text fields do."""
     page.driver.execute_cdp_cmd("Network.enable", {})
@@ -540,6 +747,35 @@ def try_large_tree(page):
     same(list(page.marks()), ["/12999/0"])
 
 
+def try_without_network(page, folder=None):
+    """The page that was open once opens without its server."""
+    server = http.server.ThreadingHTTPServer(("127.0.0.1", 0), functools.partial(Quiet, directory=folder))
+    threading.Thread(target=server.serve_forever, daemon=True).start()
+    page.driver.execute_cdp_cmd("Network.setBypassServiceWorker", {"bypass": False})
+    usual, page.address = page.address, f"http://127.0.0.1:{server.server_port}/"
+    try:
+        page.open()
+        page.driver.execute_async_script("const [done] = arguments; navigator.serviceWorker.ready.then(() => done())")
+        server.shutdown()
+        server.server_close()
+        page.open("#example=polynomials")
+        page.open()
+        page.click("#apply")
+        same(page.tree(), DONE)
+    finally:
+        page.address = usual
+        page.driver.execute_cdp_cmd("Network.setBypassServiceWorker", {"bypass": True})
+
+
+class Quiet(http.server.SimpleHTTPRequestHandler):
+    """Serves a folder, and says nothing."""
+
+    extensions_map = {**http.server.SimpleHTTPRequestHandler.extensions_map, ".mjs": "text/javascript", ".wasm": "application/wasm"}
+
+    def log_message(self, *_):
+        pass
+
+
 def try_no_dialog_stays(page):
     """Texts to copy are shown, selected and copied."""
     page.click("#script")
@@ -551,8 +787,8 @@ def try_no_dialog_stays(page):
 
 
 def try_widths(page, shots=None):
-    """Nothing is wider than the page, at a desk and on a phone, in the light and the dark."""
-    for name, (width, height) in (("desk", DESK), ("phone", PHONE)):
+    """Nothing is wider than the page, at a desk, on a phone and on a narrow one, in the light and the dark."""
+    for name, (width, height) in (("desk", DESK), ("phone", PHONE), ("narrow", NARROW)):
         for dark in (False, True):
             page.size(width, height, dark)
             page.open("#example=encapsulate-field")
@@ -562,12 +798,46 @@ def try_widths(page, shots=None):
                 if step == "refused":
                     page.apply("encapsulate(|\"Box\",widht)")
                 wide = page.js("return [document.documentElement.scrollWidth, innerWidth]")
-                assert wide[0] <= wide[1], f"{name}, {step}: {wide[0]} pixels, of {wide[1]}"
+                assert wide[0] <= width and wide[1] <= width, f"{name}, {step}: {wide[0]} and {wide[1]} pixels, of {width}"
                 if shots:
                     page.size(width, height, dark, height_of_page=True)
                     page.driver.save_screenshot(f"{shots}/{name}-{'dark' if dark else 'light'}-{step}.png")
                     page.size(width, height, dark)
     page.size(*DESK)
+
+
+# Clicks on Apply so often, and calls back with the milliseconds of each time.
+APPLY_AGAIN = """const [count, done] = arguments, took = [];
+let begun;
+const next = () => {
+  if (took.length === count) return done(took);
+  begun = performance.now();
+  document.getElementById('apply').click();
+  look();
+};
+const look = () => {
+  if (document.body.classList.contains('running')) return setTimeout(look, 0);
+  took.push(performance.now() - begun);
+  next();
+};
+next();
+"""
+
+
+def try_many_steps(page):
+    """A step takes as long after a hundred steps as at first."""
+    page.strategy("all(!1) <+ id")
+    # a busy machine may take long for all of them
+    page.driver.set_script_timeout(10 * WAIT)
+    took = page.driver.execute_async_script(APPLY_AGAIN, 100)
+    page.driver.set_script_timeout(WAIT)
+    same(len(page.steps()), 101)
+    first, last = (sorted(it)[len(it) // 2] for it in (took[:25], took[-25:]))
+    print(f"  100 steps: {sum(took):.0f} ms; one of the first {first:.0f}, of the last {last:.0f}")
+    assert last < 3 * max(first, 5), (first, last)
+    page.all("#steps button")[50].click()
+    page.until_idle()
+    same(page.current(), 50)
 
 
 # Clicks on Apply, and calls back with the milliseconds until the page has shown what came of it.
@@ -622,6 +892,7 @@ def opened():
 def main():
     parser = argparse.ArgumentParser()
     parser.add_argument("address")
+    parser.add_argument("--folder", required=True)
     parser.add_argument("--program")
     parser.add_argument("--shots")
     parser.add_argument("--only")
@@ -629,12 +900,15 @@ def main():
     if given.shots:
         os.makedirs(given.shots, exist_ok=True)
     driver, passed, failed = opened(), 0, 0
+    # all but one trial are of the files as they are
+    driver.execute_cdp_cmd("Network.enable", {})
+    driver.execute_cdp_cmd("Network.setBypassServiceWorker", {"bypass": True})
     page = Page(driver, given.address)
     try:
         for name, trial in list(globals().items()):
             if not name.startswith("try_") or (given.only and given.only not in name):
                 continue
-            words = {"try_script_and_dump": [given.program], "try_widths": [given.shots]}.get(name, [])
+            words = {"try_script_and_dump": [given.program], "try_widths": [given.shots], "try_without_network": [given.folder]}.get(name, [])
             begun, fault = time.monotonic(), ""
             try:
                 page.size(*DESK)
