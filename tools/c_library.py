@@ -19,6 +19,9 @@ from typing import NamedTuple
 from workbench import TOP
 
 CRATE = f"{TOP}/crates/stratbench_c"
+HEADER = f"{TOP}/clients/c/stratbench.h"
+# What the library says of itself, in C.
+ABOUT = f"{TOP}/clients/c/about.c"
 # The fewest bytes of an LLVM module of a program. That of `rt try` itself has fewer.
 LEAST = 1_000_000
 
@@ -57,6 +60,25 @@ PROVED, TRIED = Library(f"{CRATE}/out", True), Library(f"{TOP}/clients/c/build",
 def contents(file):
     with open(file, "rb") as it:
         return it.read()
+
+
+def declared():
+    """The functions that the header declares."""
+    return re.findall(r"^\w[\w *]*\b(stratbench_\w+)\(", contents(HEADER).decode(), re.MULTILINE)
+
+
+def version_words():
+    """The macros with the version that the header has, as words for a compiler."""
+    return [f"-D{name}={value}" for name, value in re.findall(r"^#define (STRATBENCH_VERSION\w*) (.+)$", contents(HEADER).decode(), re.MULTILINE)]
+
+
+def version():
+    """The version that the header has."""
+    return re.search(r'^#define STRATBENCH_VERSION "(.+)"$', contents(HEADER).decode(), re.MULTILINE)[1]
+
+
+# The name by which the loader looks for the shared object: it changes with the major version alone.
+SONAME = f"libstratbench.so.{version().split('.')[0]}"
 
 
 def kit():

@@ -22,7 +22,7 @@ static uint8_t *read_all(FILE *file, size_t *length) {
 }
 
 /* Prints what a call copies, and returns whether there was memory for it. */
-static int print(size_t (*copy)(void *, uint8_t *, size_t), void *handle, FILE *to) {
+static int print(size_t (*copy)(stratbench_session *, uint8_t *, size_t), stratbench_session *handle, FILE *to) {
     uint8_t nothing;
     size_t length = copy(handle, &nothing, 0);
     uint8_t *text = malloc(length + 1);
@@ -44,7 +44,7 @@ static int has_option(int argc, char **argv, const char *option) {
 int main(int argc, char **argv) {
     size_t length;
     uint8_t *script = read_all(stdin, &length);
-    void *handle = malloc(stratbench_size());
+    stratbench_session *handle = malloc(stratbench_size());
     if (script == NULL || handle == NULL)
         return STRATBENCH_NO_MEMORY;
     stratbench_new(handle);

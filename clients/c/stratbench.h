@@ -18,6 +18,13 @@
 #include <stddef.h>
 #include <stdint.h>
 
+/* The version of this header. A program that was compiled with it may be linked with the library of this version, and with a later one
+ * of the same major number: stratbench_misfit says whether the library at hand is one. */
+#define STRATBENCH_VERSION "1.2.0"
+#define STRATBENCH_VERSION_MAJOR 1
+#define STRATBENCH_VERSION_MINOR 2
+#define STRATBENCH_VERSION_PATCH 0
+
 #ifdef __cplusplus
 extern "C" {
 #endif
@@ -37,50 +44,63 @@ enum {
     STRATBENCH_NO_BUDGET = 4
 };
 
+/* A session, of which only the address is known. */
+typedef struct stratbench_session stratbench_session;
+
+/* The version of the library, as "1.2.0". */
+const char *stratbench_version(void);
+
+/* Returns NULL if the library fits a program that was compiled with the header of this version, or else a sentence that says why not:
+ * stratbench_misfit(STRATBENCH_VERSION_MAJOR, STRATBENCH_VERSION_MINOR). */
+const char *stratbench_misfit(uint32_t major, uint32_t minor);
+
+/* A sentence for a status that a call returned. */
+const char *stratbench_status_text(uint32_t status);
+
 /* The bytes at a handle, the same at each call. */
 size_t stratbench_size(void);
 
 /* Makes a session without trees and modules. */
-void stratbench_new(void *handle);
+void stratbench_new(stratbench_session *handle);
 
 /* Loads the library, whose definitions docs/manual/applying.md lists, as a step. On a new session only want of memory can refuse
  * it; the answers are then as before, else there are none. */
-uint32_t stratbench_library(void *handle);
+uint32_t stratbench_library(stratbench_session *handle);
 
 /* Sets the module of a name to a text as a file has it, as a step: its lines may begin in the first column. The text may have any
  * length. If it is refused, the answer is the refusal, else there are no answers. */
-uint32_t stratbench_module(void *handle, const uint8_t *name, size_t name_length, const uint8_t *text, size_t length);
+uint32_t stratbench_module(stratbench_session *handle, const uint8_t *name, size_t name_length, const uint8_t *text, size_t length);
 
 /* Sets the tree of a name to what a text spells, as a step. The rest is as for a module. */
-uint32_t stratbench_tree(void *handle, const uint8_t *name, size_t name_length, const uint8_t *text, size_t length);
+uint32_t stratbench_tree(stratbench_session *handle, const uint8_t *name, size_t name_length, const uint8_t *text, size_t length);
 
 /* Answers the commands of a script, which may go on over lines. The last one ends with the script. `steps`, from 1 to
  * 1,000,000, is the budget of an `apply` or `preview` that names none. The limits are those of the program by default: budgets of
  * up to 1,000,000 steps, and terms of up to 100,000. Unless nothing is done, the answers take the place of those of the last
  * call. */
-uint32_t stratbench_run(void *handle, const uint8_t *script, size_t length, uint32_t steps);
+uint32_t stratbench_run(stratbench_session *handle, const uint8_t *script, size_t length, uint32_t steps);
 
 /* The same, where each line is a command. */
-uint32_t stratbench_lines(void *handle, const uint8_t *script, size_t length, uint32_t steps);
+uint32_t stratbench_lines(stratbench_session *handle, const uint8_t *script, size_t length, uint32_t steps);
 
 /* The answer is the text of the tree of a name, and a line feed; or the refusal, if there is no such tree. */
-uint32_t stratbench_show(void *handle, const uint8_t *name, size_t name_length);
+uint32_t stratbench_show(stratbench_session *handle, const uint8_t *name, size_t name_length);
 
 /* Copies the answers of the last call, one after the other, to the start of `out` if they fit into `room` bytes, and
  * returns their length. They stay until the next script, load or tree that is shown. */
-size_t stratbench_copy(void *handle, uint8_t *out, size_t room);
+size_t stratbench_copy(stratbench_session *handle, uint8_t *out, size_t room);
 
 /* Says whether the calls that follow are to be explained: not if `explains` is 0, and not in a new session; as JSON if it is 2,
  * else as text. */
-uint32_t stratbench_explain(void *handle, uint32_t explains);
+uint32_t stratbench_explain(stratbench_session *handle, uint32_t explains);
 
 /* Copies what was said of the last call as stratbench_copy does its answers: lines on each refused command or load, and on what
  * an accepted one may not be meant to say, as `stratbench --explain` or `--explain=json` writes them. Lines for which there was no memory are left
  * out. */
-size_t stratbench_hints(void *handle, uint8_t *out, size_t room);
+size_t stratbench_hints(stratbench_session *handle, uint8_t *out, size_t room);
 
 /* Ends the session, and gives its memory back. */
-void stratbench_drop(void *handle);
+void stratbench_drop(stratbench_session *handle);
 
 #ifdef __cplusplus
 }

@@ -55,23 +55,23 @@ static void refuse_none(void) {
 
 /* ---- calls */
 
-static void *begin(void) {
-    void *handle = __real_malloc(stratbench_size());
+static stratbench_session *begin(void) {
+    stratbench_session *handle = __real_malloc(stratbench_size());
     stratbench_new(handle);
     return handle;
 }
 
-static void end(void *handle) {
+static void end(stratbench_session *handle) {
     stratbench_drop(handle);
     free(handle);
 }
 
-static uint32_t run(void *handle, const char *script) {
+static uint32_t run(stratbench_session *handle, const char *script) {
     return stratbench_run(handle, (const uint8_t *)script, strlen(script), STEPS);
 }
 
 /* Whether a call copies this text. It is copied into a block of just its size. */
-static int copied_is(size_t (*copy)(void *, uint8_t *, size_t), void *handle, const char *wanted) {
+static int copied_is(size_t (*copy)(stratbench_session *, uint8_t *, size_t), stratbench_session *handle, const char *wanted) {
     uint8_t nothing;
     size_t length = copy(handle, &nothing, 0);
     uint8_t *out = __real_malloc(length + 1);
@@ -82,15 +82,15 @@ static int copied_is(size_t (*copy)(void *, uint8_t *, size_t), void *handle, co
 }
 
 /* Whether these are the answers of the last call. */
-static int answers_are(void *handle, const char *wanted) { return copied_is(stratbench_copy, handle, wanted); }
+static int answers_are(stratbench_session *handle, const char *wanted) { return copied_is(stratbench_copy, handle, wanted); }
 
 /* Whether this was said of the last call. */
-static int hints_are(void *handle, const char *wanted) { return copied_is(stratbench_hints, handle, wanted); }
+static int hints_are(stratbench_session *handle, const char *wanted) { return copied_is(stratbench_hints, handle, wanted); }
 
 /* ---- trials */
 
 static void statuses(void) {
-    void *handle = begin();
+    stratbench_session *handle = begin();
     CHECK(answers_are(handle, ""));
     CHECK(run(handle, "") == STRATBENCH_ACCEPTED);
     CHECK(run(handle, "tree t f(1)\nshow t") == STRATBENCH_ACCEPTED && answers_are(handle, "ok\nf(1)\n"));
@@ -106,7 +106,7 @@ static void statuses(void) {
 }
 
 static void budgets(void) {
-    void *handle = begin();
+    stratbench_session *handle = begin();
     const uint8_t apply[] = "apply t do id; id; id";
     CHECK(run(handle, "tree t f(1)") == STRATBENCH_ACCEPTED);
     CHECK(stratbench_run(handle, apply, sizeof apply - 1, 2) == STRATBENCH_REFUSED && answers_are(handle, "refused 13 spent\n"));
@@ -115,7 +115,7 @@ static void budgets(void) {
 }
 
 static void framings(void) {
-    void *handle = begin();
+    stratbench_session *handle = begin();
     const uint8_t script[] = "  tree t f(1,\n  2)\nshow t\n";
     CHECK(stratbench_lines(handle, script, sizeof script - 1, STEPS) == STRATBENCH_REFUSED);
     CHECK(answers_are(handle, "refused 7 term\nrefused 2 line\nrefused 5 notree\n"));
@@ -125,7 +125,7 @@ static void framings(void) {
 }
 
 static void copies(void) {
-    void *handle = begin();
+    stratbench_session *handle = begin();
     uint8_t out[16];
     run(handle, "tree t f(1)\nshow t");
     memset(out, '-', sizeof out);
@@ -136,18 +136,18 @@ static void copies(void) {
     end(handle);
 }
 
-typedef uint32_t loading(void *, const uint8_t *, size_t, const uint8_t *, size_t);
+typedef uint32_t loading(stratbench_session *, const uint8_t *, size_t, const uint8_t *, size_t);
 
-static uint32_t load(loading *how, void *handle, const char *name, const char *text) {
+static uint32_t load(loading *how, stratbench_session *handle, const char *name, const char *text) {
     return how(handle, (const uint8_t *)name, strlen(name), (const uint8_t *)text, strlen(text));
 }
 
-static uint32_t show(void *handle, const char *name) {
+static uint32_t show(stratbench_session *handle, const char *name) {
     return stratbench_show(handle, (const uint8_t *)name, strlen(name));
 }
 
 static void loads(void) {
-    void *handle = begin();
+    stratbench_session *handle = begin();
     const char rules[] = "rules\r\nZero : Plus(x,0) -> x\r\nsignature constructors\n\nPlus : t * t -> t\n\n";
     CHECK(stratbench_library(handle) == STRATBENCH_ACCEPTED && answers_are(handle, ""));
     CHECK(load(stratbench_module, handle, "arith", rules) == STRATBENCH_ACCEPTED && answers_are(handle, ""));
@@ -173,7 +173,7 @@ static void long_tree(void) {
     char *to = text + sprintf(text, "[0");
     for (int i = 1; i < 90000; i++) to += sprintf(to, ",%d", i % 10);
     strcpy(to, "]");
-    void *handle = begin();
+    stratbench_session *handle = begin();
     CHECK(load(stratbench_tree, handle, "t", text) == STRATBENCH_ACCEPTED);
     CHECK(run(handle, "show t") == STRATBENCH_ACCEPTED);
     strcpy(to, "]\n");
@@ -182,7 +182,7 @@ static void long_tree(void) {
 }
 
 static void trees_shown(void) {
-    void *handle = begin();
+    stratbench_session *handle = begin();
     CHECK(run(handle, "tree t f( 1 ,\"x\")") == STRATBENCH_ACCEPTED);
     CHECK(show(handle, "t") == STRATBENCH_ACCEPTED && answers_are(handle, "f(1,\"x\")\n"));
     CHECK(show(handle, "u") == STRATBENCH_REFUSED && answers_are(handle, "refused 5 notree\n"));
@@ -192,7 +192,7 @@ static void trees_shown(void) {
 }
 
 static void explanations(void) {
-    void *handle = begin();
+    stratbench_session *handle = begin();
     CHECK(run(handle, "frob") == STRATBENCH_REFUSED && hints_are(handle, ""));
     CHECK(stratbench_explain(handle, 1) == STRATBENCH_ACCEPTED && answers_are(handle, "refused 2 line\n"));
     CHECK(run(handle, "tree t a\n# a comment\nshow u\nshow t") == STRATBENCH_REFUSED && answers_are(handle, "ok\nrefused 5 notree\na\n"));
@@ -211,7 +211,7 @@ static void explanations(void) {
 }
 
 static void many_calls(void) {
-    void *handle = begin();
+    stratbench_session *handle = begin();
     int before = failed;
     run(handle, "tree t f(a,[1,2])");
     for (int i = 0; i < 20000 && failed == before; i++) {
@@ -222,7 +222,7 @@ static void many_calls(void) {
 }
 
 static void side_by_side(void) {
-    void *one = begin(), *other = begin();
+    stratbench_session *one = begin(), *other = begin();
     run(one, "tree t one(0)");
     run(other, "tree t other(0)\ntree u 1");
     for (int i = 0; i < 100; i++) {
@@ -237,8 +237,8 @@ static void side_by_side(void) {
 }
 
 /* Begins a session with a tree `long`, of this many elements. */
-static void *begin_with_list(int elements) {
-    void *handle = begin();
+static stratbench_session *begin_with_list(int elements) {
+    stratbench_session *handle = begin();
     char *script = __real_malloc(32 + 2 * (size_t)elements), *to = script + sprintf(script, "tree long [0");
     for (int i = 1; i < elements; i++) to += sprintf(to, ",%d", i % 10);
     strcpy(to, "]\n");
@@ -249,7 +249,7 @@ static void *begin_with_list(int elements) {
 
 /* Runs a script that shows the list and sets a tree, many times, where growths are refused; then compares the answers with
  * what the session holds. Each answer is whole, and each command that was accepted is done, and no other. */
-static uint32_t run_short_of_memory(void *handle, int elements) {
+static uint32_t run_short_of_memory(stratbench_session *handle, int elements) {
     static char script[COMMANDS * 64], trees[COMMANDS * 8], answers[1 << 16];
     char *to = script;
     for (int i = 0; i < COMMANDS; i++) to += sprintf(to, "show long\ntree t%02d f(%d)\n", i, i);
@@ -287,7 +287,7 @@ static void refused_growths(void) {
     int seen[5] = {0};
     for (int all = 0; all < 2; all++)
         for (unsigned long at = 1, asked = at; at <= asked + 1 && !failed; at++) {
-            void *handle = begin_with_list(200);
+            stratbench_session *handle = begin_with_list(200);
             refuse(at, all ? (unsigned long)-1 : at);
             uint32_t status = run_short_of_memory(handle, 200);
             asked = growths;
@@ -303,7 +303,7 @@ static void refused_growths(void) {
 /* No block may have more than so many bytes. */
 static void limited_blocks(void) {
     for (size_t limit = 1 << 17; limit >= 1 << 10; limit /= 2) {
-        void *handle = begin_with_list(2000);
+        stratbench_session *handle = begin_with_list(2000);
         refuse(1, 0);
         largest = limit;
         run_short_of_memory(handle, 2000);
@@ -311,7 +311,7 @@ static void limited_blocks(void) {
     }
 }
 
-static uint32_t load_one(void *handle, int which) {
+static uint32_t load_one(stratbench_session *handle, int which) {
     switch (which) {
     case 0: return stratbench_library(handle);
     case 1: return load(stratbench_module, handle, "m", "rules R : A() -> B() signature constructors A : t B : t");
@@ -323,7 +323,7 @@ static uint32_t load_one(void *handle, int which) {
 static void loads_without_memory(void) {
     for (int which = 0; which < 3; which++)
         for (unsigned long at = 1, asked = at; at <= asked + 1 && !failed; at++) {
-            void *handle = begin_with_list(10);
+            stratbench_session *handle = begin_with_list(10);
             refuse(at, at);
             uint32_t status = load_one(handle, which);
             asked = growths;
@@ -343,7 +343,7 @@ static void loads_without_memory(void) {
 static void no_session(void) {
     for (unsigned long at = 1, asked = at; at <= asked + 1; at++) {
         refuse(at, (unsigned long)-1);
-        void *handle = begin();
+        stratbench_session *handle = begin();
         asked = growths;
         refuse_none();
         int is_there = asked < at;
@@ -354,6 +354,26 @@ static void no_session(void) {
     }
 }
 
+/* ---- what the library says of itself */
+
+static void about(void) {
+    CHECK(strcmp(stratbench_version(), STRATBENCH_VERSION) == 0);
+    CHECK(stratbench_misfit(STRATBENCH_VERSION_MAJOR, STRATBENCH_VERSION_MINOR) == NULL);
+    CHECK(stratbench_misfit(STRATBENCH_VERSION_MAJOR, 0) == NULL);
+    CHECK(strstr(stratbench_misfit(STRATBENCH_VERSION_MAJOR, STRATBENCH_VERSION_MINOR + 1), "a later version") != NULL);
+    CHECK(strstr(stratbench_misfit(STRATBENCH_VERSION_MAJOR + 1, 0), "another major version") != NULL);
+    CHECK(strstr(stratbench_misfit(STRATBENCH_VERSION_MAJOR + 1, 0), STRATBENCH_VERSION) != NULL);
+    const char *text = stratbench_status_text(STRATBENCH_ACCEPTED);
+    for (uint32_t status = STRATBENCH_REFUSED; status <= STRATBENCH_NO_BUDGET + 1; status++) {
+        CHECK(strcmp(text, stratbench_status_text(status)) != 0);
+        text = stratbench_status_text(status);
+    }
+    CHECK(strstr(stratbench_status_text(STRATBENCH_REFUSED), "refused") != NULL);
+    CHECK(strstr(stratbench_status_text(STRATBENCH_CUT), "the first commands") != NULL);
+    CHECK(strstr(stratbench_status_text(STRATBENCH_NO_MEMORY), "no memory") != NULL);
+    CHECK(strstr(stratbench_status_text(STRATBENCH_NO_BUDGET), "steps") != NULL);
+}
+
 int main(void) {
     const struct {
         const char *name;
@@ -362,7 +382,7 @@ int main(void) {
         {"statuses", statuses}, {"budgets", budgets}, {"framings", framings}, {"copies", copies}, {"loads", loads},
         {"long tree", long_tree}, {"trees shown", trees_shown}, {"explanations", explanations}, {"many calls", many_calls},
         {"side by side", side_by_side}, {"refused growths", refused_growths}, {"limited blocks", limited_blocks},
-        {"loads without memory", loads_without_memory}, {"no session", no_session},
+        {"loads without memory", loads_without_memory}, {"no session", no_session}, {"what the library says of itself", about},
     };
     int wrong = 0;
     for (size_t i = 0; i < sizeof trials / sizeof *trials; i++) {

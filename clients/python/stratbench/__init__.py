@@ -17,7 +17,8 @@
     >>> bench.close()
     0
 
-The program is looked for in PATH; the environment's STRATBENCH names another. Each command is answered before the next is sent.
+The program is looked for in PATH; the environment's STRATBENCH names another. `stratbench.versions` says which versions of it the client
+speaks to: any other is refused, with an `OSError`. Each command is answered before the next is sent.
 With `Stratbench(embedded=True)` the session is in this process, in the shared object of the library for C.
 """
 
@@ -30,7 +31,7 @@ from collections.abc import Iterator, Sequence
 from types import TracebackType
 from typing import Final, NamedTuple, Union
 
-from . import installed
+from . import installed, versions
 from .diagnostics import Diagnostic, Told, others, parsed, told
 from .embedded import Embedded
 from .parts import Step, TooLong, Unbalanced, in_parts
@@ -181,6 +182,7 @@ class Stratbench:
             self._process = Embedded(path, library, _STEPS if steps is None else steps)
             return
         words = [installed.program(program), *options]
+        versions.check_program(words[0])
         words += ["--explain=json"] + ["--library"] * library
         numbers = {"steps": steps, "max-steps": max_steps, "max-terms": max_terms}
         words += [f"--{option}={number}" for option, number in numbers.items() if number is not None]

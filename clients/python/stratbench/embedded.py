@@ -9,6 +9,8 @@ import weakref
 from collections.abc import Callable
 from typing import Final
 
+from . import versions
+
 # What the calls return, as clients/c/stratbench.h says.
 _REFUSED: Final = 1
 _NO_BUDGET: Final = 4
@@ -96,6 +98,10 @@ def _drop(owner: int, drop: Callable[[int], None], handle: int, memory: object) 
 
 def _calls_of(path: str) -> ctypes.CDLL:
     calls = ctypes.CDLL(path)
+    version = getattr(calls, "stratbench_version", None)
+    if version is not None:
+        version.restype = ctypes.c_char_p
+    versions.check(path, version().decode() if version else "")
     pointer, length, number = ctypes.c_void_p, ctypes.c_size_t, ctypes.c_uint32
     for name, given, result in (
         ("size", (), length),

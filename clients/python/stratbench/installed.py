@@ -1,22 +1,27 @@
-"""What is installed with the client: the program, the library for C, and the modules and rules of the folder strategies.
+"""What is installed with the client: the program, the library for C, the modules and rules of the folder strategies, and what they were made
+of.
 
 The wheel that tools/package makes has them. In a checkout the folder is there as well; the program is looked for in PATH.
 """
 
 from __future__ import annotations
 
+import json
 import os
 import sys
 import sysconfig
 from collections.abc import Iterator
-from typing import Final, Optional
+from typing import Any, Final, Optional
+
+from .versions import CLIENT
 
 STRATEGIES: Final = "strategies"
 _HERE: Final = os.path.dirname(os.path.abspath(__file__))
 # The top of a checkout, if this is one.
 _TOP: Final = os.path.dirname(os.path.dirname(os.path.dirname(_HERE)))
-# The library for C, which a wheel has here.
+# The library for C, and what the wheel was made of, which a wheel has here.
 _LIBRARY: Final = os.path.join(_HERE, "libstratbench.so")
+_BUILD: Final = os.path.join(_HERE, "build.json")
 
 
 def program(named: Optional[str] = None) -> str:
@@ -45,6 +50,16 @@ def library(named: Optional[str] = None) -> str:
 def command(module: str, name: str) -> str:
     """Returns what a command of the client was called as: by its name, which a wheel installs, or as a module."""
     return name if os.path.basename(sys.argv[0]) == name else f"python -m {module}"
+
+
+def version(name: str) -> str:
+    """Returns what a command of this name says of its version, of the commit that it was made of, and of what is proved."""
+    if not os.path.exists(_BUILD):
+        return f"{name} {CLIENT} (of a checkout)"
+    with open(_BUILD, encoding="utf-8") as it:
+        made: dict[str, Any] = json.load(it)
+    changed = ", changed" if made["changed"] else ""
+    return f"{name} {made['version']} (commit {made['commit'][:12]}{changed}, {'proved' if made['proved']['program'] else 'not proved'})"
 
 
 def strategies() -> Optional[str]:

@@ -222,10 +222,16 @@ def messages(top):
     yield "no such folder", wanted(room.run("a.py", "--modules", "none"), 2, "", "--modules none: No such file or directory\n")
     yield "no such module", wanted(room.run("a.py", "--module", "x=none.str"), 2, "", "--module x=none.str: No such file or directory\n")
     yield "no such program", wanted(room.run("a.py", "--program", "./none"), 2, "", "./none: No such file or directory\n")
+    for said, what in (("stratbench 2.0.0", "is version 2.0.0"), ("stratbench 1.1.9", "is version 1.1.9"), ("a shell", "says no version")):
+        room.put("other", f"#!/bin/sh\necho {said}\n")
+        os.chmod(f"{room.folder}/other", 0o755)
+        why = f"./other: it {what}, and this client is for versions from 1.2.0 to below 2.0.0\n"
+        yield f"a program that {what}", wanted(room.run("--write", "a.py", "--program", "./other"), 2, "", why) or ("" if room.has("a.py") == A else "a.py changed")
 
 
 def starts(top):
-    """The program is started once to look at the modules and the strategy and once for a few files, and explains only what is refused."""
+    """The program is asked for its version, and then started once to look at the modules and the strategy and once for a few files. It explains
+    only what is refused."""
     room = Room(top, a=A, same="b\n", broken="def\n")
     room.put("logs", f'#!/bin/sh\necho "$*" >>log\nexec {os.environ["STRATBENCH"]} "$@"\n')
     os.chmod(f"{room.folder}/logs", 0o755)
@@ -238,8 +244,9 @@ def starts(top):
     ]:
         room.put("log", "")
         room.run("--program", "./logs", "a.py", "same.py", strategy=strategy)
-        got = ["explain" if "--explain" in it else "run" for it in room.has("log").splitlines()]
-        yield title, "" if got == words else f"{got}"
+        first, *rest = room.has("log").splitlines()
+        got = ["explain" if "--explain" in it else "run" for it in rest]
+        yield title, "" if (first, got) == ("--version", words) else f"{first} {got}"
     room.put("rules.str", "module used\nrules\n  R : x -> y\n")
     got = room.run("a.py", strategy="topdown(try(R))")
     yield "where nothing is done, the warnings are shown", wanted(got, 0, "", "stratbench: rules.str: warning: in `R`, line 3, column 12: `y`")

@@ -10,6 +10,7 @@ import threading
 import stratbench
 import try_client
 from stratbench import Ended, Refused, Stratbench
+from stratbench.versions import Misfit
 
 EMBEDDED = functools.partial(Stratbench, embedded=True)
 # What an embedded session doesn't take.
@@ -54,6 +55,11 @@ def ends():
         yield "no shared object", "it began"
     except OSError:
         yield "no shared object", ""
+    try:
+        EMBEDDED(program="libc.so.6")
+        yield "a shared object that says no version", "it began"
+    except Misfit as why:
+        yield "a shared object that says no version", "" if "libc.so.6: it says no version, and this client is for" in str(why) else str(why)
 
 
 def side_by_side():

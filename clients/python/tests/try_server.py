@@ -140,9 +140,8 @@ def said():
         yield "faults in two modules", "" if [it["range"]["start"] for it in own + there] == [
             {"line": 0, "character": 27}, {"line": 2, "character": 4}] else f"{own} {there}"  # fmt: skip
         # what may be written instead
-        editor.change(path, "module m strategies hello = g  k = helo")
         written(room, "other.str", "module other strategies g = id")
-        editor.note("textDocument/didSave", textDocument={"uri": uri_of(path)})
+        editor.change(path, "module m strategies hello = g  k = helo")
         found = [it for it in editor.diagnostics(path) if it.get("data")]
         actions = editor.ask("textDocument/codeAction", textDocument={"uri": uri_of(path)}, range={}, context={"diagnostics": found})
         edits = [edit for it in actions for edit in it["edit"]["changes"][uri_of(path)]]

@@ -11,7 +11,7 @@ from collections.abc import Iterator, Sequence
 from types import FrameType
 from typing import Any
 
-from .. import installed, languages
+from .. import installed, languages, versions
 from ..cluster import Lost, Unreachable
 from ..concrete.text import Fault, Source
 from ..languages.language import Missing
@@ -92,8 +92,12 @@ def _arguments(words: Sequence[str] | None) -> argparse.Namespace:
     how.add_argument("--test", action="store_true", help="try the tests in the files of rules, and do nothing else")
     how.add_argument("--show-module", action="store_true", help="print the modules that are made of rules, and do nothing else")
     how.add_argument("--recover", action="store_true", help="put back what a run left that was killed while it wrote, and do nothing else")
+    parser.add_argument("--version", action="store_true", help="say the version, and do nothing else")
     parser.add_argument("files", nargs="*", metavar="FILES", help="files, folders, or - for standard input")
     found = parser.parse_args(words)
+    if found.version:
+        print(installed.version("stratbench-refactor"))
+        sys.exit()
     ruled = found.rule or found.rules
     if (found.test or found.show_module) and not ruled:
         parser.error("--rule or --rules is missing")
@@ -117,6 +121,7 @@ def _done(given: argparse.Namespace) -> int:
         print(error, file=sys.stderr)
         return 2
     try:
+        _check_version(given)
         return _tried(given, task, written) if given.test else _refactored(given, task, written)
     except (Unreachable, NoProgram, Missing) as error:
         print(error, file=sys.stderr)
@@ -124,6 +129,16 @@ def _done(given: argparse.Namespace) -> int:
     except Lost as error:
         print(f"not all files were done, and nothing was written: {error}", file=sys.stderr)
         return 3
+
+
+# Sees that the program is one that the client speaks to. Of a cluster only the workers may have it.
+def _check_version(given: argparse.Namespace) -> None:
+    if given.cluster is None:
+        program = installed.program(given.program)
+        try:
+            versions.check_program(program)
+        except OSError as error:
+            raise NoProgram(f"{program}: {error.strerror}") from None
 
 
 # Puts back what a run left that was killed, and says so. Returns whether something couldn't be put back.
@@ -311,7 +326,12 @@ def _refactored(given: argparse.Namespace, task: Task, written: Written) -> int:
 def _shown(given: argparse.Namespace, task: Task, work: _Work, tally: Tally, progress: Progress) -> bool:
     checked = False
     told: set[str] = set()
-    for outcome in outcomes(work, task, given.jobs, given.cluster):
+
+    def say(line: str) -> None:
+        progress.clear()
+        print(line, file=sys.stderr)
+
+    for outcome in outcomes(work, task, given.jobs, given.cluster, say):
         tally.outcomes.append(outcome)
         lines = said(outcome)
         if outcome.diff or lines:

@@ -22,6 +22,7 @@ from collections.abc import Iterable, Iterator, Mapping, Sequence
 from functools import cached_property
 from typing import Final, NamedTuple, Optional
 
+from .. import versions
 from ..diagnostics import Diagnostic, others, parsed
 from ..process import Process
 
@@ -158,6 +159,7 @@ class Session:
         else:
             wanted, said = {}, []
         with _files(wanted) as names:
+            versions.check_program(self._words[0])
             self._process = Process([*self._words, *_loading(names)])
             # which it answers after it has read the files
             self._answers(["history"])

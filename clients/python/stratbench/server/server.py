@@ -348,9 +348,12 @@ _REQUESTS: Final[dict[str, Callable[[Server, dict[str, Any]], Any]]] = {
 def main(words: Sequence[str] | None = None) -> int:
     """Serves one editor over standard input and output."""
     given = sys.argv[1:] if words is None else list(words)
+    if given == ["--version"]:
+        print(installed.version("stratbench-server"))
+        return 0
     if given and given != ["--stdio"]:
         name = installed.command("stratbench.server", "stratbench-server")
-        print(f"usage: {name} [--stdio]\n\n{__package__}: the language server for modules", file=sys.stderr)
+        print(f"usage: {name} [--stdio | --version]\n\n{__package__}: the language server for modules", file=sys.stderr)
         return 2
     try:
         return Server(sys.stdout.buffer, installed.program()).run(sys.stdin.buffer)
