@@ -1,0 +1,1 @@
+"""What `tools/package` makes, and how each is tried."""
