@@ -55,42 +55,35 @@ IsBase (with_tail ps p) = Unit {0}
 
 abbrev mutual
   pub ReadsPattern : Pattern → Reading
-  ReadsPattern wildcard u v = Next Wildcard u v
-  ReadsPattern (variable f) u v = Next (Ident f) u v
-  ReadsPattern (at f p) u v = (Next (Ident f) ▸ Mark At ▸ (λ x y. ReadsPattern p x y)) u v
-  ReadsPattern (number z) u v = Next (Integer z) u v
+  ReadsPattern wildcard = Next Wildcard
+  ReadsPattern (variable f) = Next (Ident f)
+  ReadsPattern (at f p) = Next (Ident f) ▸ Mark At ▸ ReadsPattern p
+  ReadsPattern (number z) = Next (Integer z)
   -- a string is its quoted name without patterns
-  ReadsPattern (compound (applied f) ps) u v =
-      (Next (Text f) u v × (ps ≡ no_patterns))
-      ⊎ (Next (Ident f) ▸ Mark OpenRound ▸ (λ x y. ReadsPatterns ps CloseRound x y)) u v
-  ReadsPattern (compound list ps) u v =
-      (Mark OpenSquare ▸ (λ x y. ReadsPatterns ps CloseSquare x y)) u v
-  ReadsPattern (compound tuple ps) u v =
-      (Mark OpenRound ▸ (λ x y. ReadsPatterns ps CloseRound x y)) u v
-  ReadsPattern (with_tail ps p) u v =
-      (Mark OpenSquare ▸ (λ x y. ReadsSomePatterns ps Bar x y) ▸ (λ x y. ReadsPattern p x y)
-      ▸ Mark CloseSquare) u v
-  ReadsPattern (annotated p ps) u v =
-      IsBase p × ((λ x y. ReadsPattern p x y) ▸ Mark OpenCurly
-      ▸ (λ x y. ReadsPatterns ps CloseCurly x y)) u v
+  ReadsPattern (compound (applied f) ps) =
+      λ u v. (Next (Text f) u v × (ps ≡ no_patterns)) ⊎ (Next (Ident f) ▸ Mark OpenRound ▸ ReadsPatterns ps CloseRound) u v
+  ReadsPattern (compound list ps) = Mark OpenSquare ▸ ReadsPatterns ps CloseSquare
+  ReadsPattern (compound tuple ps) = Mark OpenRound ▸ ReadsPatterns ps CloseRound
+  ReadsPattern (with_tail ps p) =
+      Mark OpenSquare ▸ ReadsSomePatterns ps Bar ▸ ReadsPattern p ▸ Mark CloseSquare
+  ReadsPattern (annotated p ps) =
+      λ u v. IsBase p × (ReadsPattern p ▸ Mark OpenCurly ▸ ReadsPatterns ps CloseCurly) u v
 
   -- patterns up to a sign: none, or some separated by commas, and the sign
   pub ReadsPatterns : Patterns → Sign → Reading
-  ReadsPatterns no_patterns close u v = Mark close u v
-  ReadsPatterns (and_pattern p ps) close u v =
-      ((λ x y. ReadsPattern p x y) ▸ (λ x y. ReadsMorePatterns ps close x y)) u v
+  ReadsPatterns no_patterns close = Mark close
+  ReadsPatterns (and_pattern p ps) close = ReadsPattern p ▸ ReadsMorePatterns ps close
 
   -- at least one pattern up to a sign
   pub ReadsSomePatterns : Patterns → Sign → Reading
-  ReadsSomePatterns no_patterns close u v = ⊥
-  ReadsSomePatterns (and_pattern p ps) close u v =
-      ((λ x y. ReadsPattern p x y) ▸ (λ x y. ReadsMorePatterns ps close x y)) u v
+  ReadsSomePatterns no_patterns close = λ u v. ⊥
+  ReadsSomePatterns (and_pattern p ps) close = ReadsPattern p ▸ ReadsMorePatterns ps close
 
   -- the patterns after the first one, each after a comma, and the sign
   pub ReadsMorePatterns : Patterns → Sign → Reading
-  ReadsMorePatterns no_patterns close u v = Mark close u v
-  ReadsMorePatterns (and_pattern p ps) close u v =
-      (Mark Comma ▸ (λ x y. ReadsPattern p x y) ▸ (λ x y. ReadsMorePatterns ps close x y)) u v
+  ReadsMorePatterns no_patterns close = Mark close
+  ReadsMorePatterns (and_pattern p ps) close =
+      Mark Comma ▸ ReadsPattern p ▸ ReadsMorePatterns ps close
 
 -- ---- strategies
 
@@ -120,95 +113,74 @@ word_of TestOf = Test
 
 -- the patterns after a prefix, each after a `=>`, as many as there are
 abbrev pub ReadsArrows : Patterns → Reading
-ReadsArrows no_patterns u v = v ≡ u
-ReadsArrows (and_pattern p ps) u v =
-    (Mark FatArrow ▸ ReadsPattern p ▸ (λ x y. ReadsArrows ps x y)) u v
+ReadsArrows no_patterns = λ u v. v ≡ u
+ReadsArrows (and_pattern p ps) = Mark FatArrow ▸ ReadsPattern p ▸ ReadsArrows ps
 
 -- identifiers up to a sign: the names after the first one, each after a comma, and the sign
 abbrev pub ReadsMoreNames : List Symbol → Sign → Reading
-ReadsMoreNames [] close u v = Mark close u v
-ReadsMoreNames (f ∷ fs) close u v =
-    (Mark Comma ▸ Next (Ident f) ▸ (λ x y. ReadsMoreNames fs close x y)) u v
+ReadsMoreNames [] close = Mark close
+ReadsMoreNames (f ∷ fs) close = Mark Comma ▸ Next (Ident f) ▸ ReadsMoreNames fs close
 
 abbrev pub ReadsNames : List Symbol → Sign → Reading
-ReadsNames [] close u v = Mark close u v
-ReadsNames (f ∷ fs) close u v = (Next (Ident f) ▸ ReadsMoreNames fs close) u v
+ReadsNames [] close = Mark close
+ReadsNames (f ∷ fs) close = Next (Ident f) ▸ ReadsMoreNames fs close
 
 abbrev mutual
   pub ReadsChoice : Choice → Reading
-  ReadsChoice (sequence a) u v = ReadsSeq a u v
-  ReadsChoice (left_choice a b) u v =
-      ((λ x y. ReadsSeq a x y) ▸ Mark LeftChoice ▸ (λ x y. ReadsChoice b x y)) u v
-  ReadsChoice (guarded_choice a b c) u v =
-      ((λ x y. ReadsSeq a x y) ▸ Mark Less ▸ (λ x y. ReadsSeq b x y) ▸ Mark Plus
-      ▸ (λ x y. ReadsChoice c x y)) u v
+  ReadsChoice (sequence a) = ReadsSeq a
+  ReadsChoice (left_choice a b) = ReadsSeq a ▸ Mark LeftChoice ▸ ReadsChoice b
+  ReadsChoice (guarded_choice a b c) =
+      ReadsSeq a ▸ Mark Less ▸ ReadsSeq b ▸ Mark Plus ▸ ReadsChoice c
 
   pub ReadsSeq : Seq → Reading
-  ReadsSeq (last a) u v = ReadsArrow a u v
-  ReadsSeq (before a b) u v =
-      ((λ x y. ReadsArrow a x y) ▸ Mark Semicolon ▸ (λ x y. ReadsSeq b x y)) u v
+  ReadsSeq (last a) = ReadsArrow a
+  ReadsSeq (before a b) = ReadsArrow a ▸ Mark Semicolon ▸ ReadsSeq b
 
   pub ReadsArrow : Arrow → Reading
-  ReadsArrow (arrow a ps) u v = ((λ x y. ReadsPrefix a x y) ▸ ReadsArrows ps) u v
+  ReadsArrow (arrow a ps) = ReadsPrefix a ▸ ReadsArrows ps
 
   pub ReadsPrefix : Prefix → Reading
-  ReadsPrefix (question p) u v = (Mark Question ▸ ReadsPattern p) u v
-  ReadsPrefix (exclamation p) u v = (Mark Exclamation ▸ ReadsPattern p) u v
-  ReadsPrefix (application a p) u v =
-      (Mark Less ▸ (λ x y. ReadsChoice a x y) ▸ Mark Greater ▸ ReadsPattern p) u v
-  ReadsPrefix identity u v = Word Id u v
-  ReadsPrefix failure u v = Word Fail u v
-  ReadsPrefix (operator o a) u v =
-      (Word (word_of o) ▸ Mark OpenRound ▸ (λ x y. ReadsChoice a x y) ▸ Mark CloseRound) u v
-  ReadsPrefix (if_then a b) u v =
-      (Word If ▸ (λ x y. ReadsChoice a x y) ▸ Word Then ▸ (λ x y. ReadsChoice b x y)
-      ▸ Word End) u v
-  ReadsPrefix (if_then_else a b c) u v =
-      (Word If ▸ (λ x y. ReadsChoice a x y) ▸ Word Then ▸ (λ x y. ReadsChoice b x y)
-      ▸ Word Else ▸ (λ x y. ReadsChoice c x y) ▸ Word End) u v
-  ReadsPrefix (recursion f a) u v =
-      (Word Rec ▸ Next (Ident f) ▸ Mark OpenRound ▸ (λ x y. ReadsChoice a x y)
-      ▸ Mark CloseRound) u v
-  ReadsPrefix (primitive n ps) u v =
-      (Word Prim ▸ Mark OpenRound ▸ Next (Text n) ▸ ReadsMorePatterns ps CloseRound) u v
-  ReadsPrefix (local fs a) u v =
-      (Mark OpenCurly ▸ ReadsNames fs Colon ▸ (λ x y. ReadsChoice a x y) ▸ Mark CloseCurly) u v
-  ReadsPrefix (closure p q) u v =
-      (Mark Backslash ▸ ReadsPattern p ▸ Mark RightArrow ▸ ReadsPattern q ▸ Mark Backslash) u v
-  ReadsPrefix (closure_where p q a) u v =
-      (Mark Backslash ▸ ReadsPattern p ▸ Mark RightArrow ▸ ReadsPattern q ▸ Word Where
-      ▸ (λ x y. ReadsChoice a x y) ▸ Mark Backslash) u v
-  ReadsPrefix (round cs) u v =
-      (Mark OpenRound ▸ (λ x y. ReadsChoices cs CloseRound x y)) u v
-  ReadsPrefix (square cs) u v =
-      (Mark OpenSquare ▸ (λ x y. ReadsChoices cs CloseSquare x y)) u v
-  ReadsPrefix (square_with_tail cs a) u v =
-      (Mark OpenSquare ▸ (λ x y. ReadsSomeChoices cs Bar x y) ▸ (λ x y. ReadsChoice a x y)
-      ▸ Mark CloseSquare) u v
-  ReadsPrefix (name f) u v = Next (Ident f) u v
-  ReadsPrefix (call f cs) u v =
-      (Next (Ident f) ▸ Mark OpenRound ▸ (λ x y. ReadsChoices cs CloseRound x y)) u v
-  ReadsPrefix (call_with_terms f cs ps) u v =
-      (Next (Ident f) ▸ Mark OpenRound ▸ (λ x y. ReadsChoices cs Bar x y)
-      ▸ ReadsPatterns ps CloseRound) u v
-  ReadsPrefix (child i a) u v =
-      (1 ≤ i) × (Next (Integer (pos i)) ▸ Mark OpenRound ▸ (λ x y. ReadsChoice a x y)
-      ▸ Mark CloseRound) u v
+  ReadsPrefix (question p) = Mark Question ▸ ReadsPattern p
+  ReadsPrefix (exclamation p) = Mark Exclamation ▸ ReadsPattern p
+  ReadsPrefix (application a p) = Mark Less ▸ ReadsChoice a ▸ Mark Greater ▸ ReadsPattern p
+  ReadsPrefix identity = Word Id
+  ReadsPrefix failure = Word Fail
+  ReadsPrefix (operator o a) = Word (word_of o) ▸ Mark OpenRound ▸ ReadsChoice a ▸ Mark CloseRound
+  ReadsPrefix (if_then a b) = Word If ▸ ReadsChoice a ▸ Word Then ▸ ReadsChoice b ▸ Word End
+  ReadsPrefix (if_then_else a b c) =
+      Word If ▸ ReadsChoice a ▸ Word Then ▸ ReadsChoice b ▸ Word Else ▸ ReadsChoice c ▸ Word End
+  ReadsPrefix (recursion f a) =
+      Word Rec ▸ Next (Ident f) ▸ Mark OpenRound ▸ ReadsChoice a ▸ Mark CloseRound
+  ReadsPrefix (primitive n ps) =
+      Word Prim ▸ Mark OpenRound ▸ Next (Text n) ▸ ReadsMorePatterns ps CloseRound
+  ReadsPrefix (local fs a) = Mark OpenCurly ▸ ReadsNames fs Colon ▸ ReadsChoice a ▸ Mark CloseCurly
+  ReadsPrefix (closure p q) =
+      Mark Backslash ▸ ReadsPattern p ▸ Mark RightArrow ▸ ReadsPattern q ▸ Mark Backslash
+  ReadsPrefix (closure_where p q a) =
+      Mark Backslash ▸ ReadsPattern p ▸ Mark RightArrow ▸ ReadsPattern q ▸ Word Where ▸ ReadsChoice a
+      ▸ Mark Backslash
+  ReadsPrefix (round cs) = Mark OpenRound ▸ ReadsChoices cs CloseRound
+  ReadsPrefix (square cs) = Mark OpenSquare ▸ ReadsChoices cs CloseSquare
+  ReadsPrefix (square_with_tail cs a) =
+      Mark OpenSquare ▸ ReadsSomeChoices cs Bar ▸ ReadsChoice a ▸ Mark CloseSquare
+  ReadsPrefix (name f) = Next (Ident f)
+  ReadsPrefix (call f cs) = Next (Ident f) ▸ Mark OpenRound ▸ ReadsChoices cs CloseRound
+  ReadsPrefix (call_with_terms f cs ps) =
+      Next (Ident f) ▸ Mark OpenRound ▸ ReadsChoices cs Bar ▸ ReadsPatterns ps CloseRound
+  ReadsPrefix (child i a) =
+      λ u v. (1 ≤ i) × (Next (Integer (pos i)) ▸ Mark OpenRound ▸ ReadsChoice a ▸ Mark CloseRound) u v
 
   -- strategies up to a sign: none, or some separated by commas, and the sign
   pub ReadsChoices : Choices → Sign → Reading
-  ReadsChoices no_choices close u v = Mark close u v
-  ReadsChoices (and_choice a cs) close u v =
-      ((λ x y. ReadsChoice a x y) ▸ (λ x y. ReadsMoreChoices cs close x y)) u v
+  ReadsChoices no_choices close = Mark close
+  ReadsChoices (and_choice a cs) close = ReadsChoice a ▸ ReadsMoreChoices cs close
 
   -- at least one strategy up to a sign
   pub ReadsSomeChoices : Choices → Sign → Reading
-  ReadsSomeChoices no_choices close u v = ⊥
-  ReadsSomeChoices (and_choice a cs) close u v =
-      ((λ x y. ReadsChoice a x y) ▸ (λ x y. ReadsMoreChoices cs close x y)) u v
+  ReadsSomeChoices no_choices close = λ u v. ⊥
+  ReadsSomeChoices (and_choice a cs) close = ReadsChoice a ▸ ReadsMoreChoices cs close
 
   -- the strategies after the first one, each after a comma, and the sign
   pub ReadsMoreChoices : Choices → Sign → Reading
-  ReadsMoreChoices no_choices close u v = Mark close u v
-  ReadsMoreChoices (and_choice a cs) close u v =
-      (Mark Comma ▸ (λ x y. ReadsChoice a x y) ▸ (λ x y. ReadsMoreChoices cs close x y)) u v
+  ReadsMoreChoices no_choices close = Mark close
+  ReadsMoreChoices (and_choice a cs) close = Mark Comma ▸ ReadsChoice a ▸ ReadsMoreChoices cs close

@@ -21,67 +21,60 @@ use Rattle.strategy_parse.specs.Grammar.{Reading, ◌▸◌, Next, Word, Mark, R
 
 abbrev mutual
   pub ReadsSort : Sort → Reading
-  ReadsSort (sort f no_sorts) u v = Next (Ident f) u v
-  ReadsSort (sort f (and_sort s ss)) u v =
-      (Next (Ident f) ▸ Mark OpenRound ▸ (λ x y. ReadsSort s x y)
-      ▸ (λ x y. ReadsMoreSorts ss Comma (Mark CloseRound) x y)) u v
+  ReadsSort (sort f no_sorts) = Next (Ident f)
+  ReadsSort (sort f (and_sort s ss)) =
+      Next (Ident f) ▸ Mark OpenRound ▸ ReadsSort s ▸ ReadsMoreSorts ss Comma (Mark CloseRound)
 
   -- the sorts after the first one, each after the sign, and then the end
   pub ReadsMoreSorts : Sorts → Sign → Reading → Reading
-  ReadsMoreSorts no_sorts between end u v = end u v
-  ReadsMoreSorts (and_sort s ss) between end u v =
-      (Mark between ▸ (λ x y. ReadsSort s x y)
-      ▸ (λ x y. ReadsMoreSorts ss between end x y)) u v
+  ReadsMoreSorts no_sorts between end = end
+  ReadsMoreSorts (and_sort s ss) between end =
+      Mark between ▸ ReadsSort s ▸ ReadsMoreSorts ss between end
 
 -- the name of a constructor, or none
 abbrev pub ReadsOptionalName : Option Symbol → Reading
-ReadsOptionalName None u v = v ≡ u
-ReadsOptionalName (Some f) u v = Next (Ident f) u v
+ReadsOptionalName None = λ u v. v ≡ u
+ReadsOptionalName (Some f) = Next (Ident f)
 
 abbrev pub ReadsDeclaration : Declaration → Reading
-ReadsDeclaration (constant f s) u v =
-    (Next (Ident f) ▸ Mark Colon ▸ ReadsSort s) u v
-ReadsDeclaration (function f no_sorts r) u v = ⊥
-ReadsDeclaration (function f (and_sort s ss) r) u v =
-    (ReadsOptionalName f ▸ Mark Colon ▸ ReadsSort s ▸ ReadsMoreSorts ss Star (Mark RightArrow)
-    ▸ ReadsSort r) u v
+ReadsDeclaration (constant f s) = Next (Ident f) ▸ Mark Colon ▸ ReadsSort s
+ReadsDeclaration (function f no_sorts r) = λ u v. ⊥
+ReadsDeclaration (function f (and_sort s ss) r) =
+    ReadsOptionalName f ▸ Mark Colon ▸ ReadsSort s ▸ ReadsMoreSorts ss Star (Mark RightArrow) ▸ ReadsSort r
 
 -- ---- definitions
 
 -- the parameters in brackets: strategies, and after a `|` terms
 abbrev pub ReadsParameters : List Symbol → List Symbol → Reading
-ReadsParameters ss ts u v =
-    ((ts ≡ []) × ReadsNames ss CloseRound u v)
-    ⊎ (ReadsNames ss Bar ▸ ReadsNames ts CloseRound) u v
+ReadsParameters ss ts =
+    λ u v. ((ts ≡ []) × ReadsNames ss CloseRound u v) ⊎ (ReadsNames ss Bar ▸ ReadsNames ts CloseRound) u v
 
 abbrev pub ReadsHeader : Header → Reading
-ReadsHeader h u v =
-    (Next (Ident h.name) ▸ (λ x y. (Mark OpenRound ▸ ReadsParameters h.strategies h.terms) x y
-    ⊎ ((y ≡ x) × (h.strategies ≡ []) × (h.terms ≡ [])))) u v
+ReadsHeader h =
+    Next (Ident h.name) ▸ (λ x y. (Mark OpenRound ▸ ReadsParameters h.strategies h.terms) x y ⊎ ((y ≡ x) × (h.strategies ≡ []) × (h.terms ≡ [])))
 
 abbrev pub ReadsDefined : Defined → Reading
-ReadsDefined (definition h a) u v = (ReadsHeader h ▸ Mark Equals ▸ ReadsChoice a) u v
-ReadsDefined (rule h p q) u v =
-    (ReadsHeader h ▸ Mark Colon ▸ ReadsPattern p ▸ Mark RightArrow ▸ ReadsPattern q) u v
-ReadsDefined (rule_where h p q a) u v =
-    (ReadsHeader h ▸ Mark Colon ▸ ReadsPattern p ▸ Mark RightArrow ▸ ReadsPattern q ▸ Word Where
-    ▸ ReadsChoice a) u v
+ReadsDefined (definition h a) = ReadsHeader h ▸ Mark Equals ▸ ReadsChoice a
+ReadsDefined (rule h p q) =
+    ReadsHeader h ▸ Mark Colon ▸ ReadsPattern p ▸ Mark RightArrow ▸ ReadsPattern q
+ReadsDefined (rule_where h p q a) =
+    ReadsHeader h ▸ Mark Colon ▸ ReadsPattern p ▸ Mark RightArrow ▸ ReadsPattern q ▸ Word Where ▸ ReadsChoice a
 
 -- ---- sections
 
 -- any number of these, one after the other
 abbrev pub ReadsAll : {X : Type 0} → (X → Reading) → List X → Reading
-ReadsAll Reads [] u v = v ≡ u
-ReadsAll Reads (x ∷ xs) u v = (Reads x ▸ ReadsAll Reads xs) u v
+ReadsAll Reads [] = λ u v. v ≡ u
+ReadsAll Reads (x ∷ xs) = Reads x ▸ ReadsAll Reads xs
 
 abbrev pub ReadsSignaturePart : SignaturePart → Reading
-ReadsSignaturePart (sorts ss) u v = (Word KSorts ▸ ReadsAll ReadsSort ss) u v
-ReadsSignaturePart (constructors ds) u v = (Word Constructors ▸ ReadsAll ReadsDeclaration ds) u v
+ReadsSignaturePart (sorts ss) = Word KSorts ▸ ReadsAll ReadsSort ss
+ReadsSignaturePart (constructors ds) = Word Constructors ▸ ReadsAll ReadsDeclaration ds
 
 abbrev pub ReadsSection : Section → Reading
-ReadsSection (signature ss) u v = (Word KSignature ▸ ReadsAll ReadsSignaturePart ss) u v
-ReadsSection (definitions ds) u v =
-    ((λ x y. Word Rules x y ⊎ Word Strategies x y) ▸ ReadsAll ReadsDefined ds) u v
+ReadsSection (signature ss) = Word KSignature ▸ ReadsAll ReadsSignaturePart ss
+ReadsSection (definitions ds) =
+    (λ x y. Word Rules x y ⊎ Word Strategies x y) ▸ ReadsAll ReadsDefined ds
 
 -- sections to the end of the text
 abbrev pub ReadsSections : List Section → List Token → Type 0
