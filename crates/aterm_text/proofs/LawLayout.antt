@@ -7,8 +7,8 @@ use Rattle.term_core.specs.Tree.{Tree, Trees, integer, branch, none, more}
 use Rattle.term_core.specs.Terms.{IsTerm, AreTerms}
 use Rattle.aterm_text.specs.Tokens.{is_blank, without_blanks}
 use Rattle.aterm_text.specs.Grammar.{Reads, ReadsUntil, ReadsMore, Spells}
-use Rattle.aterm_text.specs.Printed.{print}
-use Rattle.aterm_text.specs.Layout.{new_line, fitted, assembled, pretty, pretty_all, pretty_more}
+use Rattle.aterm_text.specs.Printed.{assembled, print}
+use Rattle.aterm_text.specs.Layout.{new_line, fitted, pretty, pretty_all, pretty_more}
 use Rattle.aterm_text.specs.declared.layout.TheConstants.{LINE_WIDTH}
 use Rattle.aterm_text.proofs.TrimLemmas.{reads_in}
 use Rattle.aterm_text.proofs.LawPrinted.{Ends, Ends-empty, Ends-comma, Closes, Insides, assembled-reads, reads}

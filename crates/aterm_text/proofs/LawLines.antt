@@ -5,8 +5,8 @@ use Rattle.std.specs.Fmt.{signed_decimal}
 use Rattle.term_core.specs.Tree.{Tree, Trees, integer, branch, application, list, tuple, none, more}
 use Rattle.term_core.specs.Terms.{IsTerm, AreTerms}
 use Rattle.aterm_text.specs.Laws.{IsPrinted, begins_with_space, LinesGoOn}
-use Rattle.aterm_text.specs.Printed.{print, print_name, bracketed}
-use Rattle.aterm_text.specs.Layout.{new_line, fitted, assembled, pretty, pretty_all, pretty_more}
+use Rattle.aterm_text.specs.Printed.{assembled, bracketed, print, print_name}
+use Rattle.aterm_text.specs.Layout.{new_line, fitted, pretty, pretty_all, pretty_more}
 use Rattle.aterm_text.specs.declared.layout.TheConstants.{LINE_WIDTH}
 use Rattle.aterm_text.proofs.LawOneLine.{integer-line, name-line, printed-line}
 

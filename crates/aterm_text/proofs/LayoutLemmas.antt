@@ -5,8 +5,8 @@ use Rattle.std.proofs.lemmas.List.{append-nil, replicate-append-replicate, take-
 use Rattle.std.specs.declared.result.Result.{Result}
 use Rattle.std.specs.Fmt.{signed_decimal}
 use Rattle.term_core.specs.Tree.{Tree, integer, branch, application, list, tuple, of_list, children, annotations, bare}
-use Rattle.aterm_text.specs.Printed.{print, print_name, bracketed}
-use Rattle.aterm_text.specs.Layout.{new_line, fitted, assembled, pretty, pretty_all, pretty_more}
+use Rattle.aterm_text.specs.Printed.{assembled, bracketed, print, print_name}
+use Rattle.aterm_text.specs.Layout.{new_line, fitted, pretty, pretty_all, pretty_more}
 use Rattle.aterm_text.specs.declared.layout.TheConstants.{LINE_WIDTH}
 use Rattle.aterm_text.proofs.PrintLemmas.{of_list-to_list, bracketed-some, drop-past, print_steps}
 

@@ -5,8 +5,8 @@ ghost use Rattle.std.specs.Prelude.{◌≡◌, ◌+◌, ◌++◌, ◌∷◌, [],
 ghost use Rattle.term_core.specs.Tree.{of_list, bare, children};
 ghost use Rattle.term_core.specs.Terms.{IsTerm, AreTerms};
 ghost use Rattle.aterm_text.specs.Grammar.{Spells};
-ghost use Rattle.aterm_text.specs.Printed.{print as print_of, bracketed as bracketed_of};
-ghost use Rattle.aterm_text.specs.Layout.{pretty as pretty_of, pretty_all as pretty_all_of, assembled, new_line as new_line_of};
+ghost use Rattle.aterm_text.specs.Printed.{assembled, bracketed as bracketed_of, print as print_of};
+ghost use Rattle.aterm_text.specs.Layout.{pretty as pretty_of, pretty_all as pretty_all_of, new_line as new_line_of};
 ghost use Rattle.aterm_text.specs.inside.Printing.{Extends};
 
 use crate::printer::{append_name, print_integer, print_term};
