@@ -177,7 +177,7 @@ abbrev pub form_of : Budgets → List ℕ → Option Form
 form_of budgets command =
     let text = without_end is_blank command in form_with budgets (front_word text) (after_word text)
 
--- whether the names of a form are labels
+-- whether the names of a form are labels, if it has any
 abbrev pub has_labels : Form → Bool
 has_labels (tree name text) = is_some (label_of name)
 has_labels (copy name other) = is_some (label_of name) && is_some (label_of other)
@@ -191,17 +191,8 @@ has_labels (preview name path budget text) = is_some (label_of name)
 has_labels (show name path) = is_some (label_of name)
 has_labels (pretty name path) = is_some (label_of name)
 has_labels (diff (Some name)) = is_some (label_of name)
-has_labels (diff None) = true
 has_labels (module_text name) = is_some (label_of name)
-has_labels (undo n) = true
-has_labels (redo n) = true
-has_labels begin = true
-has_labels commit = true
-has_labels abandon = true
-has_labels trees = true
-has_labels modules = true
-has_labels history = true
-has_labels dump = true
+has_labels form = true
 
 -- The form is tested before the names.
 abbrev pub checked : Option Form → Result Form Refusal
@@ -229,21 +220,4 @@ is_without_memory (undo n) = true
 is_without_memory (redo n) = true
 is_without_memory begin = true
 is_without_memory abandon = true
-is_without_memory (tree name text) = false
-is_without_memory (copy name other) = false
-is_without_memory (drop_tree name) = false
-is_without_memory (put name path text) = false
-is_without_memory (annotate name path text) = false
-is_without_memory (set_module name text) = false
-is_without_memory (unload name) = false
-is_without_memory (apply name path budget text) = false
-is_without_memory (preview name path budget text) = false
-is_without_memory commit = false
-is_without_memory (show name path) = false
-is_without_memory (pretty name path) = false
-is_without_memory (diff name) = false
-is_without_memory trees = false
-is_without_memory modules = false
-is_without_memory (module_text name) = false
-is_without_memory history = false
-is_without_memory dump = false
+is_without_memory form = false

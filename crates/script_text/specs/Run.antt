@@ -28,7 +28,7 @@ out replies = flat_map written replies
 abbrev pub last_answer : List Reply → List ℕ
 last_answer [] = []
 last_answer (reply ∷ []) = written reply
-last_answer (reply ∷ (next ∷ replies)) = last_answer (next ∷ replies)
+last_answer (reply ∷ next ∷ replies) = last_answer (next ∷ replies)
 
 -- The commands are answered, which leads from the history h to g, and their answers written: this
 -- many were accepted, and this many refused. What is written is known if the writer's bytes are.

@@ -25,7 +25,7 @@ abbrev pub without_empty_last : List (List ℕ) → List (List ℕ)
 without_empty_last [] = []
 without_empty_last ([] ∷ []) = []
 without_empty_last ((b ∷ bytes) ∷ []) = (b ∷ bytes) ∷ []
-without_empty_last (piece ∷ (next ∷ pieces)) = piece ∷ without_empty_last (next ∷ pieces)
+without_empty_last (piece ∷ next ∷ pieces) = piece ∷ without_empty_last (next ∷ pieces)
 
 -- a line that begins with `#` is a comment
 abbrev pub is_comment : List ℕ → Bool
@@ -85,7 +85,7 @@ commands Lines text = line_commands (pieces text)
 abbrev pub but_last : {X : Type 0} → List X → List X
 but_last [] = []
 but_last (x ∷ []) = []
-but_last (x ∷ (y ∷ ys)) = x ∷ but_last (y ∷ ys)
+but_last (x ∷ y ∷ ys) = x ∷ but_last (y ∷ ys)
 
 -- a text up to its last line feed
 abbrev pub ended_lines : List ℕ → List ℕ
