@@ -7,13 +7,13 @@ use Rattle.aterm_text.specs.Signs.{quote, backslash, open_round, close_round, op
 abbrev mutual
   pub outside_quotes : List ℕ → List ℕ
   outside_quotes [] = []
-  outside_quotes (b ∷ bs) = if (b == quote) then inside_quotes bs else b ∷ outside_quotes bs
+  outside_quotes (b ∷ bs) = if b == quote then inside_quotes bs else b ∷ outside_quotes bs
 
   pub inside_quotes : List ℕ → List ℕ
   inside_quotes [] = []
   inside_quotes (b ∷ bs) =
-      if (b == quote) then outside_quotes bs else
-      if (b == backslash) then after_backslash bs else inside_quotes bs
+      if b == quote then outside_quotes bs else
+      if b == backslash then after_backslash bs else inside_quotes bs
 
   pub after_backslash : List ℕ → List ℕ
   after_backslash [] = []
@@ -23,8 +23,8 @@ abbrev mutual
 -- closes one if one is open
 abbrev pub open_after : ℕ → ℕ → ℕ
 open_after b n =
-    if ((b == open_round) || (b == open_square) || (b == open_curly)) then n + 1 else
-    if ((b == close_round) || (b == close_square) || (b == close_curly)) then n - 1 else n
+    if b == open_round || b == open_square || b == open_curly then n + 1 else
+    if b == close_round || b == close_square || b == close_curly then n - 1 else n
 
 -- the greatest number of brackets open at one place, if n are open before the text
 abbrev pub greatest_open : ℕ → List ℕ → ℕ

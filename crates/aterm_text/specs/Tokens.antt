@@ -15,7 +15,7 @@ use Rattle.aterm_text.specs.Signs.{quote, backslash, minus}
 
 -- space, tab, line feed and carriage return
 abbrev pub is_blank : ℕ → Bool
-is_blank b = (b == 32) || (b == 9) || (b == 10) || (b == 13)
+is_blank b = b == 32 || b == 9 || b == 10 || b == 13
 
 -- the text without its leading white space
 abbrev pub without_blanks : List ℕ → List ℕ
@@ -37,7 +37,7 @@ NextSign b x y = without_blanks x ≡ b ∷ y
 abbrev pub integer_len : List ℕ → ℕ
 integer_len [] = 0
 integer_len (b ∷ bs) =
-    if (b == minus) then 1 + prefix_len is_ascii_digit bs else prefix_len is_ascii_digit (b ∷ bs)
+    if b == minus then 1 + prefix_len is_ascii_digit bs else prefix_len is_ascii_digit (b ∷ bs)
 
 -- These bytes are an integer: at least one digit, after an optional `-`. Leading zeros are
 -- accepted, and `-0` is 0.
@@ -65,23 +65,23 @@ octal_value a b c = 64 * (a - 48) + 8 * (b - 48) + (c - 48)
 -- three octal digits of value at most 255 stand for one byte
 abbrev pub octal_byte : ℕ → ℕ → ℕ → Option ℕ
 octal_byte a b c =
-    if (are_octal_digits a b c && nat_lt (octal_value a b c) 256)
+    if are_octal_digits a b c && nat_lt (octal_value a b c) 256
     then Some (octal_value a b c) else None
 
 -- the byte that one of `" \ n t r` stands for after a backslash
 abbrev pub short_escape : ℕ → Option ℕ
 short_escape b =
-    if (b == quote) then Some quote else
-    if (b == backslash) then Some backslash else
-    if (b == 110) then Some 10 else
-    if (b == 116) then Some 9 else
-    if (b == 114) then Some 13 else None
+    if b == quote then Some quote else
+    if b == backslash then Some backslash else
+    if b == 110 then Some 10 else
+    if b == 116 then Some 9 else
+    if b == 114 then Some 13 else None
 
 abbrev pub octal_at : List ℕ → Option (ℕ × List ℕ)
 octal_at [] = None
 octal_at (a ∷ []) = None
-octal_at (a ∷ (b ∷ [])) = None
-octal_at (a ∷ (b ∷ (c ∷ rest))) = option_map (λ byte. (byte, rest)) (octal_byte a b c)
+octal_at (a ∷ b ∷ []) = None
+octal_at (a ∷ b ∷ c ∷ rest) = option_map (λ byte. (byte, rest)) (octal_byte a b c)
 
 -- what follows a backslash: one of `" \ n t r`, or three octal digits
 abbrev pub escape_at : List ℕ → Option (ℕ × List ℕ)
@@ -93,7 +93,7 @@ escape_at (b ∷ rest) = option_map_or (λ byte. Some (byte, rest)) (short_escap
 abbrev pub item_at : List ℕ → Option (ℕ × List ℕ)
 item_at [] = None
 item_at (b ∷ rest) =
-    if (b == quote) then None else if (b == backslash) then escape_at rest else Some (b, rest)
+    if b == quote then None else if b == backslash then escape_at rest else Some (b, rest)
 
 -- items that stand for these bytes come first in x, then a quote, and y is the rest
 abbrev pub ReadsItems : List ℕ → List ℕ → List ℕ → Type 0

@@ -9,7 +9,7 @@ pub record Signature : Type 0 where
   pub arity : ℕ
 
 abbrev pub has_signature : List ℕ → ℕ → Signature → Bool
-has_signature name arity s = (s.arity == arity) && bytes_eq s.name name
+has_signature name arity s = s.arity == arity && bytes_eq s.name name
 
 -- the index of the first one with this name and arity, if there is one
 abbrev pub index_of : List ℕ → ℕ → List Signature → Option ℕ

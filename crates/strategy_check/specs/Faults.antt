@@ -75,7 +75,7 @@ abbrev mutual
 abbrev pub name_faults : Table → List Binder → Symbol → ℕ → ℕ → List Fault
 name_faults T names f n m =
     if is_some (binder_number f names) then fault_if (not (n + m == 0)) Parameter f n m
-    else fault_if (not (is_defined T f n m) && not ((m == 0) && is_declared T f n)) Unknown f n m
+    else fault_if (not (is_defined T f n m) && not (m == 0 && is_declared T f n)) Unknown f n m
 
 abbrev mutual
   pub strategy_faults : Table → Primitives → List Binder → Strategy → List Fault
@@ -85,12 +85,12 @@ abbrev mutual
   strategy_faults T P names (builds p) = pattern_faults T true p
   strategy_faults T P names (seq r s) = strategy_faults T P names r ++ strategy_faults T P names s
   strategy_faults T P names (guard q r s) =
-      strategy_faults T P names q ++ (strategy_faults T P names r ++ strategy_faults T P names s)
+      strategy_faults T P names q ++ strategy_faults T P names r ++ strategy_faults T P names s
   strategy_faults T P names (test s) = strategy_faults T P names s
   strategy_faults T P names (scope xs s) = repeated_names xs ++ strategy_faults T P names s
   strategy_faults T P names (uses f ss ps) =
       name_faults T names f (length (strategy_list ss)) (length (pattern_list ps))
-      ++ (faults_of_strategies T P names ss ++ faults_of_patterns T true ps)
+      ++ faults_of_strategies T P names ss ++ faults_of_patterns T true ps
   strategy_faults T P names (congruence h ss) = faults_of_strategies T P names ss
   strategy_faults T P names (tail_congruence ss s) =
       faults_of_strategies T P names ss ++ strategy_faults T P names s
@@ -117,8 +117,8 @@ header_faults T earlier d =
     let n = length d.strategy_parameters in
     let m = length d.term_parameters in
     repeated_names (d.strategy_parameters ++ d.term_parameters)
-    ++ (fault_if (is_among same_key (key_of d) earlier) Twice d.name n m
-    ++ fault_if ((m == 0) && is_declared T d.name n) Clash d.name n 0)
+    ++ fault_if (is_among same_key (key_of d) earlier) Twice d.name n m
+    ++ fault_if (m == 0 && is_declared T d.name n) Clash d.name n 0
 
 -- the strategy parameters of a definition
 abbrev pub parameter_names : Definition → List Binder

@@ -51,7 +51,7 @@ resolved_bodies T P first count (d ∷ ds) =
 abbrev pub joined : List ResolvedStrategy → ResolvedStrategy
 joined [] = fail
 joined (r ∷ []) = r
-joined (r ∷ (q ∷ rs)) = guard r id (joined (q ∷ rs))
+joined (r ∷ q ∷ rs) = guard r id (joined (q ∷ rs))
 
 -- the number of terms that they take: all take the same number
 abbrev pub term_count : List Definition → ℕ

@@ -13,10 +13,10 @@ pub record DefinitionKey : Type 0 where
 
 abbrev pub same_key : DefinitionKey → DefinitionKey → Bool
 same_key a b =
-    same_name a.name b.name && ((a.strategies == b.strategies) && (a.terms == b.terms))
+    same_name a.name b.name && (a.strategies == b.strategies && a.terms == b.terms)
 
 abbrev pub same_constructor : Constructor → Constructor → Bool
-same_constructor a b = same_name a.name b.name && (a.arity == b.arity)
+same_constructor a b = same_name a.name b.name && a.arity == b.arity
 
 -- Each key and each constructor once, at its first occurrence. The index of a key is the number of
 -- its definition.

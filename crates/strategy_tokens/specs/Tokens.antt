@@ -43,7 +43,7 @@ begins_with b (c ∷ cs) = c == b
 abbrev pub comment_len : List ℕ → Option ℕ
 comment_len [] = None
 comment_len (b ∷ bs) =
-    if ((b == 42) && begins_with 47 bs) then Some 2 else option_map suc (comment_len bs)
+    if b == 42 && begins_with 47 bs then Some 2 else option_map suc (comment_len bs)
 
 -- a comment that isn't closed extends to the end of the text
 abbrev pub closed_comment : Option ℕ → ℕ → Lexeme
@@ -54,8 +54,8 @@ closed_comment None rest = token_of Bad (suc rest)
 abbrev pub comment_piece : List ℕ → Lexeme
 comment_piece [] = token_of Bad 0
 comment_piece (b ∷ bs) =
-    if (b == 47) then white (suc (prefix_len is_no_line_feed bs)) else
-    if (b == 42) then closed_comment (comment_len bs) (length bs) else token_of Bad 0
+    if b == 47 then white (suc (prefix_len is_no_line_feed bs)) else
+    if b == 42 then closed_comment (comment_len bs) (length bs) else token_of Bad 0
 
 -- ---- identifiers and reserved words
 
@@ -63,30 +63,30 @@ comment_piece (b ∷ bs) =
 -- `'` and `-`; but a `-` followed by `>` doesn't belong to it.
 abbrev pub continues_ident : ℕ → List ℕ → Bool
 continues_ident b bs =
-    is_ascii_alphanumeric b || (b == 95) || (b == 39) || ((b == minus) && not (begins_with 62 bs))
+    is_ascii_alphanumeric b || b == 95 || b == 39 || (b == minus && not (begins_with 62 bs))
 
 -- the number of leading bytes that continue an identifier
 abbrev pub ident_len : List ℕ → ℕ
 ident_len [] = 0
-ident_len (b ∷ bs) = if (continues_ident b bs) then suc (ident_len bs) else 0
+ident_len (b ∷ bs) = if continues_ident b bs then suc (ident_len bs) else 0
 
 -- the value for a key in a table, by a test of keys
 abbrev pub found_in : {K X : Type 0} → (K → K → Bool) → List (K × X) → K → Option X
 found_in same [] key = None
-found_in same (row ∷ rows) key = if (same key row.0) then Some row.1 else found_in same rows key
+found_in same (row ∷ rows) key = if same key row.0 then Some row.1 else found_in same rows key
 
 abbrev pub module_keywords : List (List ℕ × Keyword)
 module_keywords =
-    (codes "module", Module) ∷ ((codes "signature", Signature) ∷ ((codes "sorts", Sorts)
-    ∷ ((codes "constructors", Constructors) ∷ ((codes "rules", Rules)
-    ∷ ((codes "strategies", Strategies) ∷ [])))))
+    (codes "module", Module) ∷ (codes "signature", Signature) ∷ (codes "sorts", Sorts)
+    ∷ (codes "constructors", Constructors) ∷ (codes "rules", Rules)
+    ∷ (codes "strategies", Strategies) ∷ []
 
 abbrev pub strategy_keywords : List (List ℕ × Keyword)
 strategy_keywords =
-    (codes "id", Id) ∷ ((codes "fail", Fail) ∷ ((codes "all", All) ∷ ((codes "one", One)
-    ∷ ((codes "some", KSome) ∷ ((codes "not", Not) ∷ ((codes "where", Where) ∷ ((codes "test", Test)
-    ∷ ((codes "if", If) ∷ ((codes "then", Then) ∷ ((codes "else", Else) ∷ ((codes "end", End)
-    ∷ ((codes "rec", Rec) ∷ ((codes "prim", Prim) ∷ [])))))))))))))
+    (codes "id", Id) ∷ (codes "fail", Fail) ∷ (codes "all", All) ∷ (codes "one", One)
+    ∷ (codes "some", KSome) ∷ (codes "not", Not) ∷ (codes "where", Where) ∷ (codes "test", Test)
+    ∷ (codes "if", If) ∷ (codes "then", Then) ∷ (codes "else", Else) ∷ (codes "end", End)
+    ∷ (codes "rec", Rec) ∷ (codes "prim", Prim) ∷ []
 
 -- the reserved word of these bytes, if they are one
 abbrev pub keyword_of : List ℕ → Option Keyword
@@ -95,7 +95,7 @@ keyword_of x = found_in bytes_eq (module_keywords ++ strategy_keywords) x
 -- the token of an identifier; `_` alone is the wildcard
 abbrev pub ident_token : List ℕ → Token
 ident_token x =
-    if (bytes_eq x (codes "_")) then Wildcard
+    if bytes_eq x (codes "_") then Wildcard
     else option_map_or Reserved (keyword_of x) (Ident (record { text = x; is_quoted = false }))
 
 -- ---- integers
@@ -107,16 +107,16 @@ is_in_range (negsuc n) = nat_lt n (2 ^ 63)
 -- the token of an integer's bytes, its `-` included; leading zeros are accepted, and `-0` is 0
 abbrev pub integer_token : List ℕ → Token
 integer_token x =
-    let z = signed_digits_value 10 x in if (is_in_range z) then Integer z else Bad
+    let z = signed_digits_value 10 x in if is_in_range z then Integer z else Bad
 
 -- after a `-`: `->`, or an integer if a digit follows
 abbrev pub minus_piece : List ℕ → Lexeme
 minus_piece [] = token_of Bad 0
 minus_piece (b ∷ bs) =
-    if (b == 62) then token_of (ASign Arrow) 1 else
-    if (is_ascii_digit b)
+    if b == 62 then token_of (ASign Arrow) 1 else
+    if is_ascii_digit b
     then (let n = prefix_len is_ascii_digit bs in
-    token_of (integer_token (minus ∷ (b ∷ take n bs))) (suc n))
+    token_of (integer_token (minus ∷ b ∷ take n bs)) (suc n))
     else token_of Bad 0
 
 -- ---- strings
@@ -131,7 +131,7 @@ and_byte b = option_map (λ l. b ∷ l)
 abbrev mutual
   pub unescaped : List ℕ → Option (List ℕ)
   unescaped [] = Some []
-  unescaped (b ∷ bs) = if (b == backslash) then after_backslash bs else and_byte b (unescaped bs)
+  unescaped (b ∷ bs) = if b == backslash then after_backslash bs else and_byte b (unescaped bs)
 
   pub after_backslash : List ℕ → Option (List ℕ)
   after_backslash [] = None
@@ -140,15 +140,15 @@ abbrev mutual
   pub after_octal : ℕ → List ℕ → Option (List ℕ)
   after_octal a [] = None
   after_octal a (b ∷ []) = None
-  after_octal a (b ∷ (c ∷ bs)) = option_and_then (λ d. and_byte d (unescaped bs)) (octal_byte a b c)
+  after_octal a (b ∷ c ∷ bs) = option_and_then (λ d. and_byte d (unescaped bs)) (octal_byte a b c)
 
 -- the number of bytes before the next `"` that isn't escaped, if there is one
 abbrev mutual
   pub quote_at : List ℕ → Option ℕ
   quote_at [] = None
   quote_at (b ∷ bs) =
-      if (b == quote) then Some 0 else
-      if (b == backslash) then option_map suc (quote_after bs) else option_map suc (quote_at bs)
+      if b == quote then Some 0 else
+      if b == backslash then option_map suc (quote_after bs) else option_map suc (quote_at bs)
 
   pub quote_after : List ℕ → Option ℕ
   quote_after [] = None
@@ -167,11 +167,11 @@ closed_string (Some n) bs = token_of (text_or_bad (unescaped (take n bs))) (suc 
 
 abbrev pub short_signs : List (ℕ × Sign)
 short_signs =
-    (open_round, OpenRound) ∷ ((close_round, CloseRound) ∷ ((open_square, OpenSquare)
-    ∷ ((close_square, CloseSquare) ∷ ((open_curly, OpenCurly) ∷ ((close_curly, CloseCurly)
-    ∷ ((comma, Comma) ∷ ((59, Semicolon) ∷ ((58, Colon) ∷ ((124, Bar) ∷ ((61, Equals)
-    ∷ ((60, Less) ∷ ((62, Greater) ∷ ((43, Plus) ∷ ((42, Star) ∷ ((63, Question)
-    ∷ ((33, Exclamation) ∷ ((64, At) ∷ ((backslash, Backslash) ∷ []))))))))))))))))))
+    (open_round, OpenRound) ∷ (close_round, CloseRound) ∷ (open_square, OpenSquare)
+    ∷ (close_square, CloseSquare) ∷ (open_curly, OpenCurly) ∷ (close_curly, CloseCurly)
+    ∷ (comma, Comma) ∷ (59, Semicolon) ∷ (58, Colon) ∷ (124, Bar) ∷ (61, Equals)
+    ∷ (60, Less) ∷ (62, Greater) ∷ (43, Plus) ∷ (42, Star) ∷ (63, Question)
+    ∷ (33, Exclamation) ∷ (64, At) ∷ (backslash, Backslash) ∷ []
 
 -- the token of a byte that begins no other
 abbrev pub short_sign : ℕ → Token
@@ -180,8 +180,8 @@ short_sign b = option_map_or ASign (found_in (λ c d. c == d) short_signs b) Bad
 -- `=>`, `<+` or a sign of one byte
 abbrev pub sign_piece : ℕ → List ℕ → Lexeme
 sign_piece b bs =
-    if ((b == 61) && begins_with 62 bs) then token_of (ASign FatArrow) 1 else
-    if ((b == 60) && begins_with 43 bs) then token_of (ASign LeftChoice) 1 else
+    if b == 61 && begins_with 62 bs then token_of (ASign FatArrow) 1 else
+    if b == 60 && begins_with 43 bs then token_of (ASign LeftChoice) 1 else
     token_of (short_sign b) 0
 
 -- ---- the tokens of a text
@@ -189,14 +189,14 @@ sign_piece b bs =
 -- what begins with this byte, followed by these
 abbrev pub piece_at : ℕ → List ℕ → Lexeme
 piece_at b bs =
-    if (is_blank b) then white 0 else
-    if (b == 47) then comment_piece bs else
-    if (begins_word b)
+    if is_blank b then white 0 else
+    if b == 47 then comment_piece bs else
+    if begins_word b
     then (let n = ident_len bs in token_of (ident_token (b ∷ take n bs)) n) else
-    if (is_ascii_digit b)
+    if is_ascii_digit b
     then (let n = prefix_len is_ascii_digit bs in token_of (integer_token (b ∷ take n bs)) n) else
-    if (b == minus) then minus_piece bs else
-    if (b == quote) then closed_string (quote_at bs) bs else sign_piece b bs
+    if b == minus then minus_piece bs else
+    if b == quote then closed_string (quote_at bs) bs else sign_piece b bs
 
 abbrev pub and_token : Option Token → List Token → List Token
 and_token None ts = ts

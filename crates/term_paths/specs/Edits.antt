@@ -41,7 +41,7 @@ has_root ((i ∷ p) ∷ ps) = has_root ps
 abbrev pub through : ℕ → List (List ℕ) → List (List ℕ)
 through i [] = []
 through i ([] ∷ ps) = through i ps
-through i ((j ∷ p) ∷ ps) = if (j == i) then (p ∷ through i ps) else (through i ps)
+through i ((j ∷ p) ∷ ps) = if j == i then (p ∷ through i ps) else (through i ps)
 
 abbrev pub kids_of : Tree → Trees
 kids_of (integer z notes) = none
@@ -51,9 +51,9 @@ kids_of (branch head kids notes) = kids
 -- second tree is used.
 abbrev mutual
   pub with_outermost : List (List ℕ) → Tree → Tree → Tree
-  with_outermost ps (integer z notes) u = if (has_root ps) then u else (integer z notes)
+  with_outermost ps (integer z notes) u = if has_root ps then u else (integer z notes)
   with_outermost ps (branch head kids notes) u =
-      if (has_root ps) then u else (branch head (all_with_outermost ps 0 kids (kids_of u)) notes)
+      if has_root ps then u else (branch head (all_with_outermost ps 0 kids (kids_of u)) notes)
 
   -- the same for the children from number i on
   pub all_with_outermost : List (List ℕ) → ℕ → Trees → Trees → Trees

@@ -15,7 +15,7 @@ is_numeral digits = not (length digits == 0) && list_all is_ascii_digit digits
 -- The number of a part is at most 4,294,967,295, and may have leading zeros.
 abbrev pub part_of : List ℕ → Option ℕ
 part_of digits =
-    if (is_numeral digits && nat_le (digits_value 10 digits) 4294967295)
+    if is_numeral digits && nat_le (digits_value 10 digits) 4294967295
     then Some (digits_value 10 digits) else None
 
 -- the parts that these pieces of a text spell, if each spells one
