@@ -63,10 +63,12 @@ mutual
   more-lines none n h c y closes = closes.sign y
   more-lines (more t ts) n h c y closes = (
     (new_line n ++ pretty n t ++ pretty_more n ts) ++ c ∷ y,
-    pretty_more n ts ++ c ∷ y,
     refl,
-    on_line t n (pretty_more n ts) (c ∷ y) (reads-lines t n (pretty_more n ts ++ c ∷ y) h.0 (Ends-lines n c ts y closes)),
-    more-lines ts n h.1 c y closes,
+    (
+      pretty_more n ts ++ c ∷ y,
+      on_line t n (pretty_more n ts) (c ∷ y) (reads-lines t n (pretty_more n ts ++ c ∷ y) h.0 (Ends-lines n c ts y closes)),
+      more-lines ts n h.1 c y closes,
+    ),
   )
 
 pub lines-spell : (t : Tree) → IsTerm t → Spells (pretty 0 t) t

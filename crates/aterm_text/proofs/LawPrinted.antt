@@ -102,18 +102,20 @@ assembled-reads (integer z notes) inner marks y h e in_all = (
 assembled-reads (branch (application name) kids notes) inner marks y h e in_all =
     let rest : List ℕ = annotations notes marks ++ y in (
       arguments kids inner ++ rest,
-      rest,
       rw (append_assoc (print_name name ++ arguments kids inner) (annotations notes marks) y ∙ append_assoc (print_name name) (arguments kids inner) rest)
           (name-read name (arguments kids inner ++ rest) h.0 (no_word-arguments kids inner rest (no_word-annotations notes marks y e))),
-      optional 40 41 kids inner rest (λ x. refl) (no_arguments-annotations notes marks y e) (in_all.0 41 rest Closes-round),
-      annotated notes marks y e (in_all.1 125 y Closes-curly),
+      (
+        rest,
+        optional 40 41 kids inner rest (λ x. refl) (no_arguments-annotations notes marks y e) (in_all.0 41 rest Closes-round),
+        annotated notes marks y e (in_all.1 125 y Closes-curly),
+      ),
     )
 assembled-reads (branch list kids notes) inner marks y h e in_all =
     let rest : List ℕ = annotations notes marks ++ y in
-    (inner ++ 93 ∷ rest, rest, ap (λ l. 91 ∷ l) (append_assoc inner (93 ∷ annotations notes marks) y), in_all.0 93 rest Closes-square, annotated notes marks y e (in_all.1 125 y Closes-curly))
+    (inner ++ 93 ∷ rest, ap (λ l. 91 ∷ l) (append_assoc inner (93 ∷ annotations notes marks) y), (rest, in_all.0 93 rest Closes-square, annotated notes marks y e (in_all.1 125 y Closes-curly)))
 assembled-reads (branch tuple kids notes) inner marks y h e in_all =
     let rest : List ℕ = annotations notes marks ++ y in
-    (inner ++ 41 ∷ rest, rest, ap (λ l. 40 ∷ l) (append_assoc inner (41 ∷ annotations notes marks) y), in_all.0 41 rest Closes-round, annotated notes marks y e (in_all.1 125 y Closes-curly))
+    (inner ++ 41 ∷ rest, ap (λ l. 40 ∷ l) (append_assoc inner (41 ∷ annotations notes marks) y), (rest, in_all.0 41 rest Closes-round, annotated notes marks y e (in_all.1 125 y Closes-curly)))
 
 -- ---- terms
 
@@ -133,10 +135,12 @@ mutual
   reads_more none h c y closes = closes.sign y
   reads_more (more t ts) h c y closes = (
     (print t ++ print_more ts) ++ c ∷ y,
-    print_more ts ++ c ∷ y,
     refl,
-    rw (append_assoc (print t) (print_more ts) (c ∷ y)) (reads t (print_more ts ++ c ∷ y) h.0 (Ends-more c ts y closes)),
-    reads_more ts h.1 c y closes,
+    (
+      print_more ts ++ c ∷ y,
+      rw (append_assoc (print t) (print_more ts) (c ∷ y)) (reads t (print_more ts ++ c ∷ y) h.0 (Ends-more c ts y closes)),
+      reads_more ts h.1 c y closes,
+    ),
   )
 
 append-nil : (a : List ℕ) → a ++ [] ≡ a

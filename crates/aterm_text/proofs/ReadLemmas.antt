@@ -44,10 +44,12 @@ module _ (x text : List ℕ) (trim : text ≡ without_blanks x) where
   pub unread-spells_annotations : (a : List ℕ) → text ≡ 123 ∷ a → (all : Tree) → Unread (base (list_term [])) [] text all → SpellsAnnotations x (annotations all)
   unread-spells_annotations a next all k = elim k.2 [
     | inl opened ↦ (
-      opened.0,
       k.1,
-      from_blanks opened.0 opened.1,
-      subst (λ ts. ReadsUntil ts 125 opened.0 k.1) (sym (of_list-to_list k.0) ∙ ap of_list (sym (to_list-of_list (to_list k.0)) ∙ ap annotations (sym k.3.1))) opened.2,
+      (
+        opened.0,
+        from_blanks opened.0 opened.1,
+        subst (λ ts. ReadsUntil ts 125 opened.0 k.1) (sym (of_list-to_list k.0) ∙ ap of_list (sym (to_list-of_list (to_list k.0)) ∙ ap annotations (sym k.3.1))) opened.2,
+      ),
       k.3.0,
     )
     | inr bare ↦ absurd (bare.0 a (to_text a (from_text a next)))
@@ -55,7 +57,7 @@ module _ (x text : List ℕ) (trim : text ≡ without_blanks x) where
 
   pub spells_annotations-unread : (notes : List Tree) → SpellsAnnotations x notes → Unread (base (list_term [])) [] text (with_annotations (list_term []) notes)
   spells_annotations-unread notes h =
-      (of_list notes, h.1, inl (h.0, to_text h.0 h.2, h.3), (h.4, ap (with_annotations (list_term [])) (sym (to_list-of_list notes))))
+      (of_list notes, h.0, inl (h.1.0, to_text h.1.0 h.1.1, h.1.2), (h.2, ap (with_annotations (list_term [])) (sym (to_list-of_list notes))))
 
   pub only_annotations : (found : Tree) → ((all : Tree) → Unread (base (list_term [])) [] text all → all ≡ found) → (notes : List Tree) → SpellsAnnotations x notes → notes ≡ annotations found
   only_annotations found only notes h = sym (to_list-of_list notes) ∙ ap annotations (only _ (spells_annotations-unread notes h))

@@ -35,9 +35,9 @@ beginning_at (branch tuple kids notes) = a_tuple
 -- the text after the beginning of a term
 pub reads-begins : (t : Tree) (x y : List ℕ) → Reads t x y → (a : List ℕ) × Begins (beginning_at t) x a
 reads-begins (integer z notes) x y h = (h.0, h.1)
-reads-begins (branch (application name) kids notes) x y h = (h.0, h.2)
-reads-begins (branch list kids notes) x y h = (h.0, h.2)
-reads-begins (branch tuple kids notes) x y h = (h.0, h.2)
+reads-begins (branch (application name) kids notes) x y h = (h.0, h.1)
+reads-begins (branch list kids notes) x y h = (h.0, h.1)
+reads-begins (branch tuple kids notes) x y h = (h.0, h.1)
 
 -- a term that begins at x has the beginning found there
 pub beginning_is : (beginning : Beginning) (t : Tree) (x y z : List ℕ) → Begins beginning x y → Reads t x z → beginning ≡ beginning_at t
@@ -106,9 +106,9 @@ module _ (levels : List Level) (x y : List ℕ) where
   list-forth : NextSign 91 x y → (all t : Tree) (v : List ℕ) → Reads t x v → AfterWhole levels t v all → Unread entered (new_level elements ∷ levels) y all
   list-forth h all (branch list kids notes) v r b = (
     kids,
-    r.1,
-    subst (λ a. ReadsUntil kids 93 a r.1) (sign_only 91 x r.0 y r.2 h) r.3,
-    (notes, v, r.4, subst (λ t. AfterWhole levels t v all) (rebuilt list kids notes) b),
+    r.2.0,
+    subst (λ a. ReadsUntil kids 93 a r.2.0) (sign_only 91 x r.0 y r.1 h) r.2.1,
+    (notes, v, r.2.2, subst (λ t. AfterWhole levels t v all) (rebuilt list kids notes) b),
   )
   list-forth h all (integer z notes) v r b = let no = beginning_is a_list (integer z notes) x y v h r in absurd (cc)
   list-forth h all (branch (application name) kids notes) v r b = let no = beginning_is a_list (branch (application name) kids notes) x y v h r in absurd (cc)
@@ -117,15 +117,15 @@ module _ (levels : List Level) (x y : List ℕ) where
   pub step-list : NextSign 91 x y → Continues expected levels x entered (new_level elements ∷ levels) y
   step-list h = record {
     forth = λ all k. list-forth h all k.0 k.1 k.2 k.3;
-    back = λ all k. (branch list k.0 k.3.0, k.3.1, (y, k.1, h, k.2, k.3.2), subst (λ t. AfterWhole levels t k.3.1 all) (sym (rebuilt list k.0 k.3.0)) k.3.3);
+    back = λ all k. (branch list k.0 k.3.0, k.3.1, (y, h, (k.1, k.2, k.3.2)), subst (λ t. AfterWhole levels t k.3.1 all) (sym (rebuilt list k.0 k.3.0)) k.3.3);
   }
 
   tuple-forth : NextSign 40 x y → (all t : Tree) (v : List ℕ) → Reads t x v → AfterWhole levels t v all → Unread entered (new_level components ∷ levels) y all
   tuple-forth h all (branch tuple kids notes) v r b = (
     kids,
-    r.1,
-    subst (λ a. ReadsUntil kids 41 a r.1) (sign_only 40 x r.0 y r.2 h) r.3,
-    (notes, v, r.4, subst (λ t. AfterWhole levels t v all) (rebuilt tuple kids notes) b),
+    r.2.0,
+    subst (λ a. ReadsUntil kids 41 a r.2.0) (sign_only 40 x r.0 y r.1 h) r.2.1,
+    (notes, v, r.2.2, subst (λ t. AfterWhole levels t v all) (rebuilt tuple kids notes) b),
   )
   tuple-forth h all (integer z notes) v r b = let no = beginning_is a_tuple (integer z notes) x y v h r in absurd (cc)
   tuple-forth h all (branch (application name) kids notes) v r b = let no = beginning_is a_tuple (branch (application name) kids notes) x y v h r in absurd (cc)
@@ -134,7 +134,7 @@ module _ (levels : List Level) (x y : List ℕ) where
   pub step-tuple : NextSign 40 x y → Continues expected levels x entered (new_level components ∷ levels) y
   step-tuple h = record {
     forth = λ all k. tuple-forth h all k.0 k.1 k.2 k.3;
-    back = λ all k. (branch tuple k.0 k.3.0, k.3.1, (y, k.1, h, k.2, k.3.2), subst (λ t. AfterWhole levels t k.3.1 all) (sym (rebuilt tuple k.0 k.3.0)) k.3.3);
+    back = λ all k. (branch tuple k.0 k.3.0, k.3.1, (y, h, (k.1, k.2, k.3.2)), subst (λ t. AfterWhole levels t k.3.1 all) (sym (rebuilt tuple k.0 k.3.0)) k.3.3);
   }
 
 -- ---- a name was read
@@ -145,15 +145,15 @@ module _ (levels : List Level) (name : Symbol) (x a : List ℕ) (h : NextName na
   arguments-forth y next all (branch list kids notes) v r b = let no = beginning_is (a_name name) (branch list kids notes) x a v h r in absurd (cc)
   arguments-forth y next all (branch tuple kids notes) v r b = let no = beginning_is (a_name name) (branch tuple kids notes) x a v h r in absurd (cc)
   arguments-forth y next all (branch (application other) kids notes) v r b =
-      let only = begins_only (a_name other) (a_name name) x r.0 a r.2 h in
+      let only = begins_only (a_name other) (a_name name) x r.0 a r.1 h in
       let same : other ≡ name = cc in
-      elim r.3 [
+      elim r.2.1 [
         | inl opened ↦
             let rest : opened.0 ≡ y = sign_only 40 r.0 opened.0 y opened.1 (subst (λ l. NextSign 40 l y) (sym only.1) next) in (
               kids,
-              r.1,
-              subst (λ l. ReadsUntil kids 41 l r.1) rest opened.2,
-              (notes, v, r.4, subst (λ t. AfterWhole levels t v all) (λ i. branch (application (same i)) (sym (of_list-to_list kids) i) (sym (of_list-to_list notes) i)) b),
+              r.2.0,
+              subst (λ l. ReadsUntil kids 41 l r.2.0) rest opened.2,
+              (notes, v, r.2.2, subst (λ t. AfterWhole levels t v all) (λ i. branch (application (same i)) (sym (of_list-to_list kids) i) (sym (of_list-to_list notes) i)) b),
             )
         | inr bare ↦ absurd (bare.0 y (subst (λ l. NextSign 40 l y) (sym only.1) next))
       ]
@@ -161,7 +161,7 @@ module _ (levels : List Level) (name : Symbol) (x a : List ℕ) (h : NextName na
   pub step-arguments : (y : List ℕ) → NextSign 40 a y → Continues expected levels x entered (new_level (arguments name) ∷ levels) y
   step-arguments y next = record {
     forth = λ all k. arguments-forth y next all k.0 k.1 k.2 k.3;
-    back = λ all k. (branch (application name) k.0 k.3.0, k.3.1, (a, k.1, h, inl (y, next, k.2), k.3.2), subst (λ t. AfterWhole levels t k.3.1 all) (sym (rebuilt (application name) k.0 k.3.0)) k.3.3);
+    back = λ all k. (branch (application name) k.0 k.3.0, k.3.1, (a, h, (k.1, inl (y, next, k.2), k.3.2)), subst (λ t. AfterWhole levels t k.3.1 all) (sym (rebuilt (application name) k.0 k.3.0)) k.3.3);
   }
 
   constant-forth : ((y : List ℕ) → NextSign 40 a y → ⊥) → (all t : Tree) (v : List ℕ) → Reads t x v → AfterWhole levels t v all → AfterBase (Outside levels) (application_term name []) a all
@@ -169,14 +169,14 @@ module _ (levels : List Level) (name : Symbol) (x a : List ℕ) (h : NextName na
   constant-forth no_sign all (branch list kids notes) v r b = let no = beginning_is (a_name name) (branch list kids notes) x a v h r in absurd (cc)
   constant-forth no_sign all (branch tuple kids notes) v r b = let no = beginning_is (a_name name) (branch tuple kids notes) x a v h r in absurd (cc)
   constant-forth no_sign all (branch (application other) kids notes) v r b =
-      let only = begins_only (a_name other) (a_name name) x r.0 a r.2 h in
+      let only = begins_only (a_name other) (a_name name) x r.0 a r.1 h in
       let same : other ≡ name = cc in
-      elim r.3 [
+      elim r.2.1 [
         | inl opened ↦ absurd (no_sign opened.0 (subst (λ l. NextSign 40 l opened.0) only.1 opened.1))
         | inr bare ↦ (
           notes,
           v,
-          subst (λ l. Optional 123 (λ p q. ReadsUntil notes 125 p q) notes l v) (bare.2 ∙ only.1) r.4,
+          subst (λ l. Optional 123 (λ p q. ReadsUntil notes 125 p q) notes l v) (bare.2 ∙ only.1) r.2.2,
           subst (λ t. AfterWhole levels t v all) (λ i. branch (application (same i)) (bare.1 i) (sym (of_list-to_list notes) i)) b,
         )
       ]
@@ -184,7 +184,7 @@ module _ (levels : List Level) (name : Symbol) (x a : List ℕ) (h : NextName na
   pub step-constant : ((y : List ℕ) → NextSign 40 a y → ⊥) → Continues expected levels x (base (application_term name [])) levels a
   step-constant no_sign = record {
     forth = λ all k. constant-forth no_sign all k.0 k.1 k.2 k.3;
-    back = λ all k. (branch (application name) none k.0, k.1, (a, a, h, inr (no_sign, refl, refl), k.2), subst (λ t. AfterWhole levels t k.1 all) (λ i. branch (application name) none (of_list-to_list k.0 i)) k.3);
+    back = λ all k. (branch (application name) none k.0, k.1, (a, h, (a, inr (no_sign, refl, refl), k.2)), subst (λ t. AfterWhole levels t k.1 all) (λ i. branch (application name) none (of_list-to_list k.0 i)) k.3);
   }
 
 -- ---- an opening bracket was read
@@ -250,9 +250,9 @@ module _ (level : Level) (levels : List Level) (t : Tree) (x : List ℕ) where
   comma-forth y next all none v r b = absurd (closing-comma level.opened (same_sign (closing_of level.opened) 44 x v y r next))
   comma-forth y next all (more u us) v r b = (
     u,
-    r.1,
-    subst (λ l. Reads u l r.1) (sign_only 44 x r.0 y r.2 next) r.3,
-    (us, v, r.4, subst (λ l. AfterClosed (Outside levels) level.opened l v all) (sym (append_assoc level.done (t ∷ []) (u ∷ to_list us))) b),
+    r.2.0,
+    subst (λ l. Reads u l r.2.0) (sign_only 44 x r.0 y r.1 next) r.2.1,
+    (us, v, r.2.2, subst (λ l. AfterClosed (Outside levels) level.opened l v all) (sym (append_assoc level.done (t ∷ []) (u ∷ to_list us))) b),
   )
 
   pub step-comma : (y : List ℕ) → NextSign 44 x y → Continues (whole t) (level ∷ levels) x expected (with_term level t ∷ levels) y
@@ -261,7 +261,7 @@ module _ (level : Level) (levels : List Level) (t : Tree) (x : List ℕ) where
     back = λ all k. (
       more k.0 k.3.0,
       k.3.1,
-      (y, k.1, next, k.2, k.3.2),
+      (y, next, (k.1, k.2, k.3.2)),
       subst (λ l. AfterClosed (Outside levels) level.opened l k.3.1 all) (append_assoc level.done (t ∷ []) (k.0 ∷ to_list k.3.0)) k.3.3,
     );
   }
@@ -271,7 +271,7 @@ module _ (level : Level) (levels : List Level) (t : Tree) (x : List ℕ) where
   close-forth y next all none v r b =
       to_unread level.opened (level.done ++ t ∷ []) levels y all
       (subst (λ l. AfterClosed (Outside levels) level.opened (level.done ++ t ∷ []) l all) (sign_only (closing_of level.opened) x v y r next) b)
-  close-forth y next all (more u us) v r b = absurd (closing-comma level.opened (same_sign (closing_of level.opened) 44 x y r.0 next r.2))
+  close-forth y next all (more u us) v r b = absurd (closing-comma level.opened (same_sign (closing_of level.opened) 44 x y r.0 next r.1))
 
   pub step-close : (y : List ℕ) → NextSign (closing_of level.opened) x y → Continues (whole t) (level ∷ levels) x (closed level.opened (level.done ++ t ∷ [])) levels y
   step-close y next = record {
@@ -281,7 +281,7 @@ module _ (level : Level) (levels : List Level) (t : Tree) (x : List ℕ) where
 
   stuck-more : ((y : List ℕ) → NextSign 44 x y → ⊥) → ((y : List ℕ) → NextSign (closing_of level.opened) x y → ⊥) → (us : Trees) (v : List ℕ) → ReadsMore us (closing_of level.opened) x v → ⊥
   stuck-more no_comma no_closing none v r = no_closing v r
-  stuck-more no_comma no_closing (more u us) v r = no_comma r.0 r.2
+  stuck-more no_comma no_closing (more u us) v r = no_comma r.0 r.1
 
   pub stuck-whole : ((y : List ℕ) → NextSign 44 x y → ⊥) → ((y : List ℕ) → NextSign (closing_of level.opened) x y → ⊥) → IsStuck (whole t) (level ∷ levels) x
   stuck-whole no_comma no_closing all k = stuck-more no_comma no_closing k.0 k.1 k.2

@@ -35,9 +35,9 @@ module _ (x y : List ℕ) (same : without_blanks x ≡ without_blanks y) where
 
   pub reads_in : (t : Tree) (z : List ℕ) → Reads t x z → Reads t y z
   reads_in (integer v notes) z h = (h.0, (subst (λ l. IsInteger (take (integer_len l) l) v × (h.0 ≡ drop (integer_len l) l)) same h.1), h.2)
-  reads_in (branch (application name) kids notes) z h = (h.0, h.1, name_part name.is_quoted name.text h.0 h.2, h.3, h.4)
-  reads_in (branch list kids notes) z h = (h.0, h.1, sign_in 91 h.0 h.2, h.3, h.4)
-  reads_in (branch tuple kids notes) z h = (h.0, h.1, sign_in 40 h.0 h.2, h.3, h.4)
+  reads_in (branch (application name) kids notes) z h = (h.0, name_part name.is_quoted name.text h.0 h.1, h.2)
+  reads_in (branch list kids notes) z h = (h.0, sign_in 91 h.0 h.1, h.2)
+  reads_in (branch tuple kids notes) z h = (h.0, sign_in 40 h.0 h.1, h.2)
 
   until_in : (ts : Trees) (close : ℕ) (z : List ℕ) → ReadsUntil ts close x z → ReadsUntil ts close y z
   until_in none close z h = sign_in close z h
@@ -45,7 +45,7 @@ module _ (x y : List ℕ) (same : without_blanks x ≡ without_blanks y) where
 
   more_in : (ts : Trees) (close : ℕ) (z : List ℕ) → ReadsMore ts close x z → ReadsMore ts close y z
   more_in none close z h = sign_in close z h
-  more_in (more t ts) close z h = (h.0, h.1, sign_in 44 h.0 h.2, h.3, h.4)
+  more_in (more t ts) close z h = (h.0, sign_in 44 h.0 h.1, h.2)
 
   whole_in : (levels : List Level) (t all : Tree) → AfterWhole levels t x all → AfterWhole levels t y all
   whole_in [] t all h = (sym same ∙ h.0, h.1)
