@@ -10,7 +10,8 @@ use Rattle.strategy_tokens.specs.declared.token.Keyword.TheVariants.{Id, Fail, W
 use Rattle.strategy_tokens.specs.declared.token.Sign.{Sign}
 use Rattle.strategy_tokens.specs.declared.token.Sign.TheVariants.{OpenRound, CloseRound, OpenSquare, CloseSquare, OpenCurly, CloseCurly, Comma, Semicolon, Colon, Bar, FatArrow, Arrow as RightArrow, Less, Greater, LeftChoice, Plus, Question, Exclamation, At, Backslash}
 use Rattle.strategy_parse.specs.Written.{Choice, sequence, left_choice, guarded_choice, Seq, last, before, Arrow, arrow, Prefix, question, exclamation, application, identity, failure, operator, if_then, if_then_else, recursion, primitive, local, closure, closure_where, round, square, square_with_tail, name, call, call_with_terms, child, Choices, no_choices, and_choice}
-use Rattle.strategy_parse.specs.Grammar.{Reading, ◌▸◌, Next, Word, Mark, ReadsPattern, ReadsPatterns, ReadsSomePatterns, ReadsMorePatterns, ReadsArrows, ReadsMoreNames, ReadsNames, word_of, ReadsChoice, ReadsSeq, ReadsArrow, ReadsPrefix, ReadsChoices, ReadsSomeChoices, ReadsMoreChoices}
+use Rattle.aterm_text.specs.Grammar.{◌▸◌}
+use Rattle.strategy_parse.specs.Grammar.{Reading, Next, Word, Mark, ReadsPattern, ReadsPatterns, ReadsSomePatterns, ReadsMorePatterns, ReadsArrows, ReadsMoreNames, ReadsNames, word_of, ReadsChoice, ReadsSeq, ReadsArrow, ReadsPrefix, ReadsChoices, ReadsSomeChoices, ReadsMoreChoices}
 
 -- the tokens that R reads at the start of u, before v
 pub record Front (R : Reading) (u v : List Token) : Type 0 where

@@ -9,7 +9,8 @@ use Rattle.strategy_tokens.specs.declared.token.Sign.{Sign}
 use Rattle.strategy_tokens.specs.declared.token.Sign.TheVariants.{OpenRound, CloseRound, Comma, Bar}
 use Rattle.strategy_tokens.specs.Marks.{is_mark}
 use Rattle.strategy_parse.specs.Written.{Header}
-use Rattle.strategy_parse.specs.Grammar.{◌▸◌, Mark, ReadsNames, ReadsMoreNames}
+use Rattle.aterm_text.specs.Grammar.{◌▸◌}
+use Rattle.strategy_parse.specs.Grammar.{Mark, ReadsNames, ReadsMoreNames}
 use Rattle.strategy_parse.specs.GrammarModules.{ReadsParameters, ReadsHeader}
 use Rattle.strategy_parse.specs.inside.ModuleFronts.{after_mark, NamesLeft, more_names, names_at, HeaderLeft, make_header, close_header, after_terms, after_bar, without_terms, after_strategies, parameters_at, after_name, header_at}
 use Rattle.strategy_tokens.proofs.MarkLemmas.{mark_self, mark_is}

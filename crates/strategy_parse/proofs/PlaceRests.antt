@@ -23,7 +23,8 @@ use Rattle.strategy_parse.specs.declared.modules.place.ModulePlace.{ModulePlace}
 use Rattle.strategy_parse.specs.declared.modules.place.ModulePlace.TheVariants as place
 use Rattle.strategy_parse.specs.declared.parser.state.ParserState.{ParserState}
 use Rattle.strategy_parse.specs.declared.parser.state.ParserState.TheVariants.{Strategy as ToStrategy, Pattern as ToPattern}
-use Rattle.strategy_parse.specs.Grammar.{◌▸◌, Mark, ReadsNames, ReadsMoreNames}
+use Rattle.aterm_text.specs.Grammar.{◌▸◌}
+use Rattle.strategy_parse.specs.Grammar.{Mark, ReadsNames, ReadsMoreNames}
 use Rattle.strategy_parse.specs.GrammarModules.{ReadsParameters}
 use Rattle.strategy_parse.specs.StuckModules.{GiveModule}
 use Rattle.strategy_parse.specs.inside.ModuleFronts.{sorts_from}

@@ -2,6 +2,7 @@
 -- tokens begins with the form, and what the rest is.
 use Rattle.std.specs.Prelude.{◌≡◌, ◌≤◌, pos, List, [], ◌∷◌, ◌⊎◌}
 use Rattle.term_core.specs.Tree.{Symbol, application as applied, list, tuple}
+use Rattle.aterm_text.specs.Grammar.{◌▸◌}
 use Rattle.strategy_syntax.specs.Syntax.{Pattern, wildcard, variable, at, number, compound, with_tail, annotated, Patterns, no_patterns, and_pattern}
 use Rattle.strategy_tokens.specs.declared.token.Token.{Token}
 use Rattle.strategy_tokens.specs.declared.token.Token.TheVariants.{Ident, Wildcard, Reserved, Integer, Text, Sign as ASign}
@@ -19,20 +20,15 @@ use Rattle.strategy_parse.specs.Written.{Choice, sequence, left_choice, guarded_
 abbrev pub Reading : Type 1
 Reading = List Token → List Token → Type 0
 
-infixr 5 ◌▸◌
--- one reading followed by another
-abbrev pub ◌▸◌ : Reading → Reading → Reading
-◌▸◌ R S x y = (a : List Token) × R x a × S a y
-
 -- the token comes first
 abbrev pub Next : Token → Reading
 Next t x y = x ≡ t ∷ y
 
 abbrev pub Word : Keyword → Reading
-Word k x y = x ≡ Reserved k ∷ y
+Word k = Next (Reserved k)
 
 abbrev pub Mark : Sign → Reading
-Mark s x y = x ≡ ASign s ∷ y
+Mark s = Next (ASign s)
 
 -- ---- patterns
 

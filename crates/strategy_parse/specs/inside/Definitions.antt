@@ -5,7 +5,8 @@ use Rattle.strategy_tokens.specs.declared.token.Token.{Token}
 use Rattle.strategy_tokens.specs.declared.token.Keyword.TheVariants.{Where}
 use Rattle.strategy_tokens.specs.declared.token.Sign.TheVariants.{Arrow as RightArrow}
 use Rattle.strategy_parse.specs.Written.{Header, Defined, definition, rule, rule_where}
-use Rattle.strategy_parse.specs.Grammar.{Reading, ◌▸◌, Word, Mark, ReadsPattern, ReadsChoice}
+use Rattle.aterm_text.specs.Grammar.{◌▸◌}
+use Rattle.strategy_parse.specs.Grammar.{Reading, Word, Mark, ReadsPattern, ReadsChoice}
 use Rattle.strategy_parse.specs.GrammarModules.{ReadsDefined}
 use Rattle.strategy_parse.specs.Core.{core_definition}
 use Rattle.strategy_parse.specs.inside.Fronts.{Stops}
