@@ -12,7 +12,8 @@ use Rattle.term_core.proofs.TreeLemmas.{to_list-of_list, of_list-to_list}
 use Rattle.strategy_meaning.specs.Same.{same_head, same_trees}
 use Rattle.strategy_meaning.proofs.SameLemmas.{head-self, same_is_equal}
 use Rattle.session_history.specs.Differences.{subterms_differ, annotations_differ, as_many, annotated, differences, differences_from}
-use Rattle.session_history.specs.inside.Lined.{same_root, same_kind}
+use Rattle.session_history.specs.inside.Lined.{same_kind}
+use Rattle.session_history.specs.DifferenceLaws.{same_root}
 
 -- ---- tests
 

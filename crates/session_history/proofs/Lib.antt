@@ -24,3 +24,5 @@ pub mod SlotTold
 pub mod SortedLemmas
 pub mod EntryTold
 pub mod NamedTold
+pub mod StandingLemmas
+pub mod NothingLemmas

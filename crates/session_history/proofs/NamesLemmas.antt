@@ -36,7 +36,7 @@ equal_of Less e = absurd (cc)
 equal_of Equal e = refl
 equal_of Greater e = absurd (cc)
 
-ties_same : (q k : List ℕ) → eq_by_cmp (slice_cmp nat_cmp) q k ≡ true → q ≡ k
+pub ties_same : (q k : List ℕ) → eq_by_cmp (slice_cmp nat_cmp) q k ≡ true → q ≡ k
 ties_same q k e = exact_bytes q k (equal_of (slice_cmp nat_cmp q k) e)
 
 among-filter : (p : List ℕ → Bool) (q : List ℕ) (ns : List (List ℕ)) → among (filter p ns) q ≡ (among ns q && p q)
@@ -95,7 +95,7 @@ module _ {X : Type 0} where
   neither (Some x) b e = absurd (cc)
 
   -- a name that isn't one of them is in neither map
-  not_among : (a b : Named X) (q : List ℕ) → among (names_of a b) q ≡ false → (finmap.get a q ≡ None) × (finmap.get b q ≡ None)
+  pub not_among : (a b : Named X) (q : List ℕ) → among (names_of a b) q ≡ false → (finmap.get a q ≡ None) × (finmap.get b q ≡ None)
   not_among a b q e =
       let R = slice_cmp nat_cmp in
       let all = from_entries {R = R} (entries a ++ entries b) in

@@ -7,7 +7,7 @@ use Rattle.term_paths.specs.Paths.{at}
 use Rattle.term_paths.proofs.PathLemmas.{changed_at}
 use Rattle.term_changes.specs.Entries.{Entry, slot_tree, subterm, subterm_annotations, slot_text}
 use Rattle.session_history.specs.Differences.{Difference, annotated, differences, differences_from}
-use Rattle.session_history.specs.inside.Lined.{same_root}
+use Rattle.session_history.specs.DifferenceLaws.{same_root}
 use Rattle.session_history.proofs.DifferenceLemmas.{differences_same, differ_below, annotated_same, root_same, root_kept, child_kept, child_notes}
 use Rattle.session_history.proofs.AgreeLemmas.{Along, Later, change_differs, along_itself, later_kept}
 

@@ -3,7 +3,8 @@
 ghost use Rattle.std.specs.Prelude.{◌≡◌, [], OnOk, map, length, option_copied};
 ghost use Rattle.term_core.specs.Tree.{of_list};
 ghost use Rattle.session_history.specs.Differences.{differences as differences_of, differences_from, annotated, difference_line, tree_lines, text_lines};
-ghost use Rattle.session_history.specs.inside.Lined.{AddsLines, same_root, same_kind};
+ghost use Rattle.session_history.specs.inside.Lined.{AddsLines, same_kind};
+ghost use Rattle.session_history.specs.DifferenceLaws.{same_root};
 
 use crate::lines::{CountedLines, Side};
 use term_core::{Kind, NoMemory, Term, all_equal};

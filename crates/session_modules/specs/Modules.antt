@@ -52,8 +52,7 @@ AreRead texts [] [] = Unit {0}
 AreRead texts (name ∷ names) (m ∷ ms) =
     (m.0 ≡ name) × IsSomeAnd (finmap.get texts name) (λ text. ReadsAsModule text (Ok m.1))
     × AreRead texts names ms
-AreRead texts [] (m ∷ ms) = ⊥
-AreRead texts (name ∷ names) [] = ⊥
+AreRead texts names ms = ⊥
 
 -- These are the modules of all texts, in byte order of their names.
 abbrev pub AreModules : Texts → Modules → Type 0

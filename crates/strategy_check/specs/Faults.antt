@@ -46,8 +46,7 @@ repeated_names xs =
 -- need no declaration.
 abbrev pub head_faults : Table → Head → ℕ → List Fault
 head_faults T (application f) n = fault_if (not f.is_quoted && not (is_declared T f n)) Undeclared f n 0
-head_faults T list n = []
-head_faults T tuple n = []
+head_faults T head n = []
 
 -- `wild x 0 0` is a fault only in patterns that build: `_` or `x@p`
 abbrev mutual

@@ -8,11 +8,11 @@ use Rattle.strategy_tokens.specs.declared.token.Token.TheVariants.{Reserved}
 use Rattle.strategy_tokens.specs.declared.token.Keyword.{Keyword}
 use Rattle.strategy_tokens.specs.declared.token.Keyword.TheVariants.{Signature as KSignature, Sorts as KSorts, Constructors as KConstructors, Rules, Strategies, Where}
 use Rattle.strategy_parse.specs.Written.{Sort, Declaration, Defined, SignaturePart, sorts, constructors, Section, signature, definitions}
-use Rattle.strategy_parse.specs.GrammarModules.{ReadsSort, ReadsDeclaration, ReadsDefined, ReadsSections, ReadsSignaturePart, ReadsAll}
+use Rattle.strategy_parse.specs.GrammarModules.{ReadsSort, ReadsDeclaration, ReadsDefined, ReadsSignaturePart, ReadsAll}
 use Rattle.strategy_parse.specs.Core.{declared, core_definition}
 use Rattle.strategy_tokens.specs.Marks.{is_word}
 use Rattle.strategy_parse.specs.inside.Definitions.{DefinitionEnds}
-use Rattle.strategy_parse.specs.inside.Sections.{IsItem, joined, SectionsLeft, SignatureLeft, SortsLeft, DeclarationsLeft, DefinitionsLeft}
+use Rattle.strategy_parse.specs.inside.Sections.{IsItem, joined, ReadsSections, SectionsLeft, SignatureLeft, SortsLeft, DeclarationsLeft, DefinitionsLeft}
 use Rattle.strategy_parse.proofs.DeclarationLemmas.{DeclarationEnds}
 use Rattle.strategy_parse.proofs.SectionWords.{joined-joined, Named, NamedOrColon, defined_named, sort_named, declaration_front, item_is}
 

@@ -13,9 +13,9 @@ use Rattle.strategy_tokens.specs.declared.token.Sign.TheVariants.{Colon}
 use Rattle.strategy_parse.specs.declared.modules.sections.Context.{Context}
 use Rattle.strategy_parse.specs.declared.modules.sections.Context.TheVariants.{Outside, Signature as InSignature, Sorts, Constructors, Definitions}
 use Rattle.strategy_parse.specs.Written.{Sort, sort, no_sorts, and_sort, Declaration, constant, function, Defined, definition, rule, rule_where, SignaturePart, sorts, constructors, Section, signature, definitions}
-use Rattle.strategy_parse.specs.GrammarModules.{ReadsSort, ReadsDeclaration, ReadsDefined, ReadsSections, ReadsSignaturePart, ReadsAll}
+use Rattle.strategy_parse.specs.GrammarModules.{ReadsSort, ReadsDeclaration, ReadsDefined, ReadsSignaturePart, ReadsAll}
 use Rattle.strategy_parse.specs.Core.{declared, declared_in_part, core_module, core_definition}
-use Rattle.strategy_parse.specs.inside.Sections.{in_signature, next_context, IsItem, joined, SectionsLeft, SignatureLeft, SortsLeft, DeclarationsLeft, DefinitionsLeft, Left}
+use Rattle.strategy_parse.specs.inside.Sections.{in_signature, next_context, IsItem, joined, ReadsSections, SectionsLeft, SignatureLeft, SortsLeft, DeclarationsLeft, DefinitionsLeft, Left}
 
 -- an empty module
 unfoldable pub nothing : Module

@@ -8,18 +8,26 @@ use Rattle.strategy_tokens.specs.declared.token.Token.TheVariants.{Ident, Wildca
 use Rattle.strategy_tokens.specs.declared.token.Keyword.TheVariants.{Module as KModule, Signature as KSignature, Rules, Strategies}
 use Rattle.strategy_parse.specs.declared.modules.sections.Context.TheVariants.{Outside}
 use Rattle.strategy_parse.specs.Written.{Section, signature, definitions}
-use Rattle.strategy_parse.specs.GrammarModules.{ReadsSections}
+use Rattle.strategy_parse.specs.GrammarModules.{ReadsSection, ReadsAll}
 use Rattle.strategy_tokens.specs.Marks.{is_word}
 use Rattle.strategy_parse.specs.inside.ModuleFronts.{after_ident}
 use Rattle.strategy_parse.specs.inside.NextToken.{next_token}
 use Rattle.strategy_parse.specs.Gives.{GivesModule}
-use Rattle.strategy_parse.specs.inside.Sections.{SectionsLeft, Left}
+use Rattle.strategy_parse.specs.inside.Sections.{ReadsSections, SectionsLeft, Left}
+
+all_sections : (ss : List Section) (x : List Token) → ReadsSections ss x → ReadsAll ReadsSection ss x []
+all_sections [] x r = sym r
+all_sections (s ∷ ss) x r = (r.0, r.1, all_sections ss r.0 r.2)
+
+sections_all : (ss : List Section) (x : List Token) → ReadsAll ReadsSection ss x [] → ReadsSections ss x
+sections_all [] x r = sym r
+sections_all (s ∷ ss) x r = (r.0, r.1, sections_all ss r.0 r.2)
 
 pub titled : (f : Symbol) (x : List Token) (m : Module) → Left Outside x m → GivesModule (Reserved KModule ∷ (Ident f ∷ x)) m
-titled f x m l = (l.sections, (x, inl (f, (Ident f ∷ x, refl, refl)), l.reads), l.gives)
+titled f x m l = (l.sections, (x, inl (f, (Ident f ∷ x, refl, refl)), all_sections l.sections x l.reads), l.gives)
 
 pub untitled : (x : List Token) (m : Module) → Left Outside x m → GivesModule x m
-untitled x m l = (l.sections, (x, inr refl, l.reads), l.gives)
+untitled x m l = (l.sections, (x, inr refl, all_sections l.sections x l.reads), l.gives)
 
 no_module_word : (ss : List Section) (x y : List Token) → x ≡ Reserved KModule ∷ y → ReadsSections ss x → ⊥
 no_module_word [] x y e r = let no : ◌≡◌ {A = List Token} (Reserved KModule ∷ y) [] = sym e ∙ r in cc
@@ -32,12 +40,12 @@ pub title_forth : (x y : List Token) (m : Module) → x ≡ Reserved KModule ∷
 title_forth x y m e (ss, (v, (inl t), reads), is) =
     let word : Reserved KModule ∷ y ≡ Reserved KModule ∷ t.1.0 = sym e ∙ t.1.1 in
     let rest : y ≡ t.1.0 = cc in
-    (t.0, v, rest ∙ t.1.2, record { sections = ss; reads = reads; gives = is })
-title_forth x y m e (ss, (v, (inr same), reads), is) = absurd (no_module_word ss v y (same ∙ e) reads)
+    (t.0, v, rest ∙ t.1.2, record { sections = ss; reads = sections_all ss v reads; gives = is })
+title_forth x y m e (ss, (v, (inr same), reads), is) = absurd (no_module_word ss v y (same ∙ e) (sections_all ss v reads))
 
 pub untitled_forth : (x : List Token) (m : Module) → ((y : List Token) → x ≡ Reserved KModule ∷ y → ⊥) → GivesModule x m → Left Outside x m
 untitled_forth x m other (ss, (v, (inl t), reads), is) = absurd (other t.1.0 t.1.1)
-untitled_forth x m other (ss, (v, (inr same), reads), is) = record { sections = ss; reads = subst (ReadsSections ss) same reads; gives = is }
+untitled_forth x m other (ss, (v, (inr same), reads), is) = record { sections = ss; reads = subst (ReadsSections ss) same (sections_all ss v reads); gives = is }
 
 -- ---- as the code has it
 

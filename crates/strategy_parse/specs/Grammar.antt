@@ -43,11 +43,7 @@ Mark s = Next (ASign s)
 abbrev pub IsBase : Pattern → Type 0
 IsBase (at x p) = ⊥
 IsBase (annotated p ps) = ⊥
-IsBase wildcard = Unit {0}
-IsBase (variable x) = Unit {0}
-IsBase (number z) = Unit {0}
-IsBase (compound h ps) = Unit {0}
-IsBase (with_tail ps p) = Unit {0}
+IsBase p = Unit {0}
 
 abbrev mutual
   pub ReadsPattern : Pattern → Reading

@@ -77,11 +77,6 @@ ReadsSection (signature ss) = Word KSignature ▸ ReadsAll ReadsSignaturePart ss
 ReadsSection (definitions ds) =
     (λ x y. Word Rules x y ⊎ Word Strategies x y) ▸ ReadsAll ReadsDefined ds
 
--- sections to the end of the text
-abbrev pub ReadsSections : List Section → List Token → Type 0
-ReadsSections [] u = u ≡ []
-ReadsSections (s ∷ ss) u = (v : List Token) × ReadsSection s u v × ReadsSections ss v
-
 -- the name after `module`, which isn't used, or none
 abbrev pub ReadsTitle : Reading
 ReadsTitle u v =
@@ -89,4 +84,4 @@ ReadsTitle u v =
 
 -- the text is a module of these sections
 abbrev pub ReadsModule : List Section → List Token → Type 0
-ReadsModule ss u = (v : List Token) × ReadsTitle u v × ReadsSections ss v
+ReadsModule ss u = (ReadsTitle ▸ ReadsAll ReadsSection ss) u []

@@ -1,25 +1,16 @@
 -- Lines that are written and counted.
-use Rattle.std.specs.Prelude.{◌≡◌, ℕ, ◌+◌, Bool, true, false, ◌&&◌, List, ◌++◌, length}
+use Rattle.std.specs.Prelude.{◌≡◌, ℕ, ◌+◌, Bool, true, false, List, ◌++◌, length}
 use Rattle.std.specs.List.{flat_map}
 use Rattle.std.specs.Ordering.{int_eq}
-use Rattle.term_core.specs.Tree.{same_name, integer, branch}
-use Rattle.term_core.specs.Tree as term
+use Rattle.term_core.specs.Tree.{same_name}
 use Rattle.term_core.specs.declared.kind.Kind.{Kind}
 use Rattle.term_core.specs.declared.kind.Kind.TheVariants.{Integer, Application, List as AList, Tuple}
-use Rattle.strategy_meaning.specs.Same.{same_head}
-use Rattle.session_history.specs.Differences.{as_many}
 use Rattle.session_history.specs.declared.lines.CountedLines.{CountedLines}
 
 -- These lines were added.
 pub record AddsLines (lines : List (List ℕ)) (old new : CountedLines) : Type 0 where
   pub text : new.text.items ≡ old.text.items ++ flat_map (λ l. l) lines
   pub count : new.count ≡ old.count + length lines
-
--- whether two trees have the same head and as many children
-abbrev pub same_root : term.Tree → term.Tree → Bool
-same_root (integer y ns) (integer z ms) = int_eq y z
-same_root (branch h us ns) (branch k vs ms) = same_head h k && as_many us vs
-same_root t u = false
 
 abbrev pub same_kind : Kind → Kind → Bool
 same_kind (Integer y) (Integer z) = int_eq y z

@@ -10,7 +10,7 @@ use Rattle.strategy_tokens.specs.declared.token.Keyword.TheVariants.{Signature a
 use Rattle.strategy_parse.specs.declared.modules.sections.Context.{Context}
 use Rattle.strategy_parse.specs.declared.modules.sections.Context.TheVariants.{Outside, Signature as InSignature, Sorts, Constructors, Definitions}
 use Rattle.strategy_parse.specs.Written.{Sort, Declaration, Defined, SignaturePart, Section}
-use Rattle.strategy_parse.specs.GrammarModules.{ReadsSections, ReadsSort, ReadsDeclaration, ReadsDefined, ReadsSignaturePart, ReadsAll}
+use Rattle.strategy_parse.specs.GrammarModules.{ReadsSection, ReadsSort, ReadsDeclaration, ReadsDefined, ReadsSignaturePart, ReadsAll}
 use Rattle.strategy_parse.specs.Core.{declared, declared_in_part, core_module, core_definition}
 
 -- ---- words
@@ -41,6 +41,11 @@ IsItem (t ∷ ts) = Unit {0}
 -- what was read before, followed by what the rest gives
 abbrev pub joined : List Constructor → List Definition → Module → Module
 joined cs ds m = record { constructors = cs ++ m.constructors; definitions = ds ++ m.definitions }
+
+-- sections to the end of the text
+abbrev pub ReadsSections : List Section → List Token → Type 0
+ReadsSections [] x = x ≡ []
+ReadsSections (s ∷ ss) x = (y : List Token) × ReadsSection s x y × ReadsSections ss y
 
 -- sections, up to the end of the text
 pub record SectionsLeft (x : List Token) (m : Module) : Type 0 where

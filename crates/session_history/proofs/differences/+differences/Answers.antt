@@ -6,7 +6,8 @@ use Rattle.term_core.specs.Tree.{Tree, integer, branch, of_list, children, annot
 use Rattle.term_core.specs.Size.{height, heights}
 use Rattle.term_core.proofs.TreeLemmas.{of_list-to_list, heights-take_more, heights-take}
 use Rattle.session_history.specs.Differences.{annotated, differences, differences_from, difference_line}
-use Rattle.session_history.specs.inside.Lined.{AddsLines, same_root}
+use Rattle.session_history.specs.inside.Lined.{AddsLines}
+use Rattle.session_history.specs.DifferenceLaws.{same_root}
 use Rattle.session_history.specs.declared.lines.CountedLines.{CountedLines}
 use Rattle.session_history.proofs.DifferenceLemmas.{differ_below, root_count, next_child, past_children}
 use Rattle.session_history.proofs.AddedLemmas.{adds_equal, adds_then, path_back}

@@ -1,5 +1,7 @@
 use Rattle.session_history.proofs.BackLemmas.{differences_lead_back, equal_trees_dont_differ}
 use Rattle.session_history.proofs.PlaceOrderLemmas.{differences_are_in_order}
+use Rattle.session_history.proofs.StandingLemmas.{each_place_differs}
+use Rattle.session_history.proofs.NothingLemmas.{nothing_listed}
 use Rattle.session_history.proofs.laws.differences_lead_back.Goals as goal
 
 pub returns-clause-back : goal.returns-clause-back
@@ -10,3 +12,9 @@ returns-clause-equal c = equal_trees_dont_differ
 
 pub returns-clause-order : goal.returns-clause-order
 returns-clause-order c = differences_are_in_order
+
+pub returns-clause-each : goal.returns-clause-each
+returns-clause-each c = each_place_differs
+
+pub returns-clause-nothing : goal.returns-clause-nothing
+returns-clause-nothing c = nothing_listed
