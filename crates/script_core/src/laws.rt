@@ -15,12 +15,13 @@ ghost use Rattle.session_history.specs.declared.TheConstants.{MAX_BUDGET, MAX_ST
 ghost use Rattle.script_text.specs.declared.TheConstants.{MAX_COMMAND};
 ghost use Rattle.script_core.specs.declared.buffer.TheConstants.{ANSWER_ROOM};
 ghost use Rattle.script_core.specs.declared.running.TheConstants.{MAX_READS};
-ghost use Rattle.script_text.specs.Laws.{OneRun, DumpReadsBack, DumpIsAnswered};
+ghost use Rattle.script_text.specs.Laws.{OneRun, DumpReadsBack, DumpIsAnswered, GreaterLimitsAnswerTheSame, LimitsAreKept};
 
 use aterm_text::laws::{
     one_term, printed_text_is_as_long, printed_text_is_one_line, printed_text_nests,
     printed_text_reads_back,
 };
+use strategy_meaning::laws::more_room_gives_the_same;
 use strategy_parse::laws::{one_module, one_result};
 
 /// A run of commands has one outcome, given which of them were refused memory.
@@ -49,6 +50,20 @@ pub fn dump_reads_back()
     printed_text_is_one_line();
     printed_text_nests();
     printed_text_is_as_long();
+}
+
+/// No command changes the limits of a session, nor its primitives.
+pub fn limits_are_kept()
+    ensures { LimitsAreKept }
+{}
+
+/// A run in which every command is accepted has the same answers with greater limits, and leads to the
+/// same trees, modules and steps.
+pub fn greater_limits_answer_the_same()
+    ensures { GreaterLimitsAnswerTheSame }
+{
+    // Called for its contract: what a strategy gives in some room it gives in more.
+    more_room_gives_the_same();
 }
 
 /// By default a term fits if its level and height are together at most 1,000 and its size is at

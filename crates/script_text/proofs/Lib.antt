@@ -12,3 +12,5 @@ pub mod DumpLemmas
 pub mod DumpRows
 pub mod DefinitionRows
 pub mod KeywordLemmas
+pub mod LimitLemmas
+pub mod KeptLemmas

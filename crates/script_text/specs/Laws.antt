@@ -1,5 +1,5 @@
 -- Laws of runs.
-use Rattle.std.specs.Prelude.{◌≡◌, ◌≤◌, ℕ, Bool, false, List, [], length, drop, codes, None, IfSome, count_by, is_ok, is_err}
+use Rattle.std.specs.Prelude.{◌≡◌, ◌≤◌, ℕ, ◌+◌, Bool, true, false, List, [], length, drop, map, codes, None, Ok, Err, IfSome, count_by, is_ok, is_err}
 use Rattle.std.specs.List.{AllByRecursion, repeat, slice_split, prefix_len, suffix_len}
 use Rattle.std.specs.FinMap as finmap
 use Rattle.term_core.specs.declared.TheConstants.{MAX_SIZE}
@@ -14,7 +14,7 @@ use Rattle.script_text.specs.declared.framing.Framing.{Framing}
 use Rattle.script_text.specs.declared.framing.Framing.TheVariants.{Continued, Lines}
 use Rattle.script_text.specs.Script.{is_line_feed, is_carriage_return, begins_command, commands}
 use Rattle.script_text.specs.Handed.{Handed, handed}
-use Rattle.script_text.specs.Replies.{Reply, line}
+use Rattle.script_text.specs.Replies.{Accepted, Reply, line}
 use Rattle.script_text.specs.Answer.{ReplyInRun}
 use Rattle.script_text.specs.Run.{Replied, out}
 
@@ -25,6 +25,39 @@ OneRun =
     (meaning : Meaning) (stop : Bool) (budget : ℕ) (commands : List Handed) (flags : List Bool) (h g k : History)
     (replies others : List Reply) → Replied stop (ReplyInRun meaning budget) commands flags h replies g
     → Replied stop (ReplyInRun meaning budget) commands flags h others k → (replies ≡ others) × (g ≡ k)
+
+-- ---- limits
+
+-- No command changes the limits of a session, nor its primitives.
+abbrev pub LimitsAreKept : Type 0
+LimitsAreKept =
+    (meaning : Meaning) (stop : Bool) (budget : ℕ) (commands : List Handed) (flags : List Bool) (h g : History)
+    (replies : List Reply) → Replied stop (ReplyInRun meaning budget) commands flags h replies g
+    → (g.limits ≡ h.limits) × (g.primitives ≡ h.primitives)
+
+-- the history with limits that are greater by this many terms and this many steps
+abbrev pub raised : ℕ → ℕ → History → History
+raised terms steps h =
+    record h { limits = record { max_terms = h.limits.max_terms + terms; max_steps = h.limits.max_steps + steps } }
+
+-- the same answer, and such a history after it
+abbrev pub raised_accepted : ℕ → ℕ → Accepted → Accepted
+raised_accepted terms steps a = record a { history = raised terms steps a.history }
+
+abbrev pub raised_reply : ℕ → ℕ → Reply → Reply
+raised_reply terms steps (Ok a) = Ok (raised_accepted terms steps a)
+raised_reply terms steps (Err refusal) = Err refusal
+
+-- A run in which every command is accepted has the same answers with greater limits, and leads to the
+-- same trees, modules and steps.
+abbrev pub GreaterLimitsAnswerTheSame : Type 0
+GreaterLimitsAnswerTheSame =
+    (meaning : Meaning) (stop : Bool) (budget : ℕ) (commands : List Handed) (flags : List Bool) (h g : History)
+    (replies : List Reply) (terms steps : ℕ) → AllByRecursion (λ reply. is_ok reply ≡ true) replies
+    → Replied stop (ReplyInRun meaning budget) commands flags h replies g
+    → Replied stop (ReplyInRun meaning budget) commands flags (raised terms steps h)
+    (map (raised_reply terms steps) replies) (raised terms steps g)
+    × (out (map (raised_reply terms steps) replies) ≡ out replies)
 
 -- ---- dumps
 
