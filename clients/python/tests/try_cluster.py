@@ -67,7 +67,7 @@ class Workers:
 
     def wait(self, workers):
         """Waits until there are so many workers."""
-        script = f"import distributed; distributed.Client({self.address!r}).wait_for_workers({workers}, timeout=60)"
+        script = f"import distributed; distributed.Client({self.address!r}).wait_for_workers({workers}, timeout=600)"
         subprocess.run([self.python, "-c", script], check=True, capture_output=True)
 
     def begun(self, name):
@@ -84,7 +84,7 @@ class Workers:
         shutil.rmtree(self.folder, ignore_errors=True)
 
 
-def until(holds, seconds=60):
+def until(holds, seconds=600):
     """Waits until something holds."""
     end = time.monotonic() + seconds
     while not holds():
@@ -109,7 +109,7 @@ class Front:
 
     def run(self, *words, **environment):
         ran = self.start(*words, **environment)
-        out, said = ran.communicate(timeout=60)
+        out, said = ran.communicate(timeout=600)
         return ran.returncode, out, said
 
     def numbers(self):
@@ -141,7 +141,7 @@ def spread(top, python):
         until(lambda: workers.begun("one"))
         one.kill()
         one.wait()
-        out, said = ran.communicate(timeout=60)
+        out, said = ran.communicate(timeout=600)
         # the one that ran alone didn't write
         same = alone[0] == 3 and (ran.returncode, out, said.replace(" changed, ", " would change, ")) == alone
         yield "one of two workers is ended in the middle", "" if same else f"{said}{out}, wanted {alone}"
@@ -197,22 +197,38 @@ def mixed(top, python):
         yield "a worker without what a language needs", "" if right else f"{status} {out} {said}"
 
 
+# So many seconds a run gets to find the scheduler: few, and more where the machine is slow.
+PATIENCE = (1, 4, 16, 64)
+
+
+def soon(seconds):
+    return {"DASK_DISTRIBUTED__COMM__TIMEOUTS__CONNECT": f"{seconds}s"}
+
+
 def faults(top, python):
     front = Front(top, python)
-    soon = {"DASK_DISTRIBUTED__COMM__TIMEOUTS__CONNECT": "1s"}
     with Workers(python) as workers, contextlib.closing(front.room):
-        yield "no worker", wanted(front.run("--write", "--cluster", workers.address, **soon), 3, "", "has had no worker for 1 seconds")
+        for seconds in PATIENCE:
+            got = front.run("--write", "--cluster", workers.address, **soon(seconds))
+            if "no scheduler answers" not in got[2]:
+                break
+        yield "no worker", wanted(got, 3, "", f"has had no worker for {seconds} seconds")
         worker = workers.worker("one", sleep="5")
-        ran = front.start("--write", "--cluster", workers.address, **soon)
-        until(lambda: workers.begun("one"))
+        workers.wait(1)
+        for seconds in PATIENCE:
+            ran = front.start("--write", "--cluster", workers.address, **soon(seconds))
+            until(lambda ran=ran: workers.begun("one") or ran.poll() is not None)
+            if workers.begun("one"):
+                break
+            ran.communicate()
         workers.scheduler.kill()
-        got = ran.communicate(timeout=60)
+        got = ran.communicate(timeout=600)
         said = f"not all files were done, and nothing was written: the scheduler at {workers.address} was lost\n"
         yield "the scheduler is ended in the middle", "" if (ran.returncode, *got) == (3, "", said) else f"{got}"
         yield "no file was written", "" if front.numbers() == {0} else f"{front.numbers()}"
         worker.kill()
-        yield "no scheduler", wanted(front.run("--cluster", workers.address, **soon), 2, "", f"--cluster {workers.address}: no scheduler answers")
-        yield "no address", wanted(front.run("--cluster", "tcp://nowhere.invalid:1", **soon), 2, "", "no scheduler answers")
+        yield "no scheduler", wanted(front.run("--cluster", workers.address, **soon(1)), 2, "", f"--cluster {workers.address}: no scheduler answers")
+        yield "no address", wanted(front.run("--cluster", "tcp://nowhere.invalid:1", **soon(1)), 2, "", "no scheduler answers")
         yield "--cluster beside --jobs", wanted(front.run("--cluster", workers.address, "--jobs", "2"), 2, "", "not allowed with argument")
         front.room.put("distributed.py", "raise ImportError('none here')\n")
         yield "no distributed", wanted(front.run("--cluster", workers.address), 2, "", "Debian's python3-distributed")
