@@ -34,7 +34,7 @@ module_lines c names = flat_map (λ name. option_map_or (module_line name) (finm
 abbrev pub grouped : Contents → List (List ℕ) → List ℕ
 grouped c [] = []
 grouped c (name ∷ names) =
-    (codes "begin" ++ 10 ∷ []) ++ module_lines c (name ∷ names) ++ codes "commit" ++ 10 ∷ []
+    (codes "begin" ++ 10 ∷ []) ++ module_lines c (name ∷ names) ++ (codes "commit" ++ 10 ∷ [])
 
 abbrev pub dumped_modules : Contents → List ℕ
 dumped_modules c = grouped c (finmap.keys c.modules)

@@ -84,12 +84,12 @@ abbrev mutual
   strategy_faults T P names (builds p) = pattern_faults T true p
   strategy_faults T P names (seq r s) = strategy_faults T P names r ++ strategy_faults T P names s
   strategy_faults T P names (guard q r s) =
-      strategy_faults T P names q ++ strategy_faults T P names r ++ strategy_faults T P names s
+      strategy_faults T P names q ++ (strategy_faults T P names r ++ strategy_faults T P names s)
   strategy_faults T P names (test s) = strategy_faults T P names s
   strategy_faults T P names (scope xs s) = repeated_names xs ++ strategy_faults T P names s
   strategy_faults T P names (uses f ss ps) =
       name_faults T names f (length (strategy_list ss)) (length (pattern_list ps))
-      ++ faults_of_strategies T P names ss ++ faults_of_patterns T true ps
+      ++ (faults_of_strategies T P names ss ++ faults_of_patterns T true ps)
   strategy_faults T P names (congruence h ss) = faults_of_strategies T P names ss
   strategy_faults T P names (tail_congruence ss s) =
       faults_of_strategies T P names ss ++ strategy_faults T P names s
@@ -116,8 +116,8 @@ header_faults T earlier d =
     let n = length d.strategy_parameters in
     let m = length d.term_parameters in
     repeated_names (d.strategy_parameters ++ d.term_parameters)
-    ++ fault_if (is_among same_key (key_of d) earlier) Twice d.name n m
-    ++ fault_if (m == 0 && is_declared T d.name n) Clash d.name n 0
+    ++ (fault_if (is_among same_key (key_of d) earlier) Twice d.name n m
+    ++ fault_if (m == 0 && is_declared T d.name n) Clash d.name n 0)
 
 -- the strategy parameters of a definition
 abbrev pub parameter_names : Definition → List Binder

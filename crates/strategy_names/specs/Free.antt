@@ -15,7 +15,7 @@ abbrev mutual
   free (matches p) = variables p
   free (builds p) = variables p
   free (seq r s) = free r ++ free s
-  free (guard q r s) = free q ++ free r ++ free s
+  free (guard q r s) = free q ++ (free r ++ free s)
   free (test s) = free s
   free (scope xs s) = without same_name xs (free s)
   free (uses f ss ps) = free_in_all ss ++ variables_of_all ps
