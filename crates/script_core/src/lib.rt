@@ -9,6 +9,7 @@ mod lines;
 mod preview;
 mod refusing;
 mod running;
+mod status;
 mod watch;
 
 pub use answer::{answer_text, answer_watched};
@@ -17,4 +18,5 @@ pub use running::{MAX_READS, PIECE, RunFault, Settings, Summary, run, run_watche
 pub use script_text::{
     Bytes, Command, Counted, Failed, Fed, Framing, Held, MAX_COMMAND, Piece, Sink, Source, Splitter,
 };
+pub use status::status;
 pub use watch::{Unwatched, Watch};

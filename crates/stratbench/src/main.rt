@@ -30,11 +30,11 @@ use prim_extended::extended_primitives;
 use reading::{ScriptFile, limit_of, read_file};
 use room::{NEEDED, too_small_stack};
 use script_core::{
-    Answer, Counted, Framing, RunFault, Settings, Sink, Source, Summary, run, run_watched,
+    Answer, Counted, Framing, RunFault, Settings, Sink, Source, Summary, run, run_watched, status,
 };
 use session_core::{Refusal, Session};
 use session_loading::{library_text, load_library};
-use status::{FileFault, file_status, status};
+use status::{FileFault, file_status};
 use std::alloc::Global;
 use std::cell::Cell;
 use std::env;

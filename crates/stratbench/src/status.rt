@@ -1,25 +1,11 @@
-//! The exit status for the outcome of a run.
+//! What is wrong with files, and the exit status for it.
 
 ghost use Rattle.std.specs.Prelude.{◌≡◌};
-ghost use Rattle.stratbench.specs.Status.{status_of, status_of_file};
+ghost use Rattle.stratbench.specs.Status.{status_of_file};
 
-use script_core::{RunFault, Summary};
 use session_core::Refusal;
 use std::io;
 use term_core::NoMemory;
-
-/// The exit status for the outcome of a run: 0 if all commands were accepted, 1 if some were
-/// refused, 3 for a fault of reading or writing or the bound on reads, 4 for want of memory.
-pub fn status(outcome: &Result<Summary, RunFault>) -> u8
-    ensures { result ≡ status_of outcome.now }
-{
-    match outcome {
-        Ok(summary) if summary.refused == 0 => 0,
-        Ok(_) => 1,
-        Err(RunFault::Read | RunFault::Write | RunFault::Turns) => 3,
-        Err(RunFault::Memory) => 4,
-    }
-}
 
 /// What is wrong with a file of the command line, or with what is in it.
 #[derive(Drop)]
