@@ -1,3 +1,4 @@
+pub mod ReadLemmas
 pub mod LibraryLemmas
 pub mod LoadingLemmas
 pub mod TextLemmas

@@ -1,15 +1,18 @@
--- What loading the library does to a session.
-use Rattle.std.specs.Prelude.{ℕ, ◌-◌, List, length, take, drop, codes, Ok}
-use Rattle.session_history.specs.History.{History}
-use Rattle.session_history.specs.Acts.{ComesTo, set_module}
-use Rattle.session_loading.specs.declared.library.TheConstants.{LIBRARY}
+-- The step that loads the library.
+use Rattle.std.specs.Prelude.{List, Err}
+use Rattle.prim_core.specs.Signature.{Signature}
+use Rattle.session_modules.specs.declared.refusal.Refusal.{Refusal}
+use Rattle.session_history.specs.declared.limits.Limits.{Limits}
+use Rattle.session_history.specs.History.{empty_within}
+use Rattle.session_history.specs.Acts.{Act, ComesTo, set_module}
+use Rattle.session_loading.specs.declared.library.TheConstants.{LIBRARY, LIBRARY_NAME}
 
--- The text of the module: the command without its two words, the blanks after them and the line
--- feed at its end.
-abbrev pub library_text : List ℕ
-library_text = drop 16 (take (length LIBRARY.now - 1) LIBRARY.now)
+-- The module `library` is set to its text.
+abbrev pub set_library : Act
+set_library = set_module LIBRARY_NAME.now LIBRARY.now
 
--- The text of the module `library` is set to this one, by the step of the session that sets a
--- module.
-abbrev pub LoadsLibrary : History → History → Type 0
-LoadsLibrary h g = ComesTo (set_module (codes "library") library_text) h (Ok g)
+-- A new session doesn't refuse the library, whatever its limits and primitives.
+abbrev pub LibraryIsAccepted : Type 0
+LibraryIsAccepted =
+    (limits : Limits) (primitives : List Signature) (refusal : Refusal)
+    → ComesTo set_library (empty_within limits primitives) (Err refusal) → ⊥

@@ -33,7 +33,7 @@ use script_core::{
     Answer, Counted, Framing, RunFault, Settings, Sink, Source, Summary, run, run_watched, status,
 };
 use session_core::{Refusal, Session};
-use session_loading::{library_text, load_library};
+use session_loading::{LIBRARY, load_library};
 use status::{FileFault, file_status};
 use std::alloc::Global;
 use std::cell::Cell;
@@ -168,10 +168,9 @@ fn run_with<M: Meaning>(
 // Loads what is to be loaded, runs the script, and writes what is to be written; or only looks at the
 // modules.
 fn run_whole<M: Meaning>(rt: &HostRuntime, line: &CommandLine<'_>, session: &mut Session<M>) -> u8 {
-    if line.library {
-        if let Err(fault) = load_library(rt.alloc(), session) {
-            return report(rt, Err(fault));
-        }
+    // On a new session only want of memory can refuse the library.
+    if line.library && load_library(rt.alloc(), session).is_err() {
+        return report(rt, Err(RunFault::Memory));
     }
     if line.check {
         return check_modules(rt, session, line, &observer(rt, line));
@@ -518,11 +517,7 @@ fn observer(rt: &HostRuntime, line: &CommandLine<'_>) -> Observer<'static> {
             Form::Text("stratbench: ")
         },
     };
-    let unloaded = if line.library {
-        None
-    } else {
-        Some(library_text())
-    };
+    let unloaded = if line.library { None } else { Some(LIBRARY) };
     Observer::new(rt.alloc(), settings(line), wanted, unloaded)
 }
 

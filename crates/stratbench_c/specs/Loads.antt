@@ -6,12 +6,12 @@ use Rattle.std.specs.declared.result.Result.{Result}
 use Rattle.term_core.specs.Word.{label_of}
 use Rattle.aterm_text.specs.Printed.{print}
 use Rattle.session_history.specs.History.{History}
-use Rattle.session_history.specs.Acts.{ActResult}
+use Rattle.session_history.specs.Acts.{ActResult, ComesTo, set_module}
 use Rattle.session_modules.specs.declared.refusal.Refusal.{Refusal}
 use Rattle.session_modules.specs.declared.refusal.Refusal.TheVariants.{Memory, Name, NoTree}
 use Rattle.script_text.specs.Replies.{line}
 use Rattle.script_text.specs.Answer.{TellsRefusal}
-use Rattle.session_loading.specs.Library.{LoadsLibrary}
+use Rattle.session_loading.specs.declared.library.TheConstants.{LIBRARY, LIBRARY_NAME}
 use Rattle.stratbench_c.specs.declared.bench.Work.{Work}
 use Rattle.stratbench_c.specs.declared.status.Status.{Status}
 use Rattle.stratbench_c.specs.declared.status.Status.TheVariants.{Accepted, Refused, Cut, NoMemory}
@@ -47,21 +47,13 @@ abbrev pub TellsLoad : Loading → List ℕ → List ℕ → ℕ → Option Work
 TellsLoad Loads name text code old new =
     (status : Status) × (code ≡ code_of status) × LoadedAt Loads name text status old new
 
--- The library is loaded, and there are no answers; or the session and its answers stay.
-abbrev pub LibraryLoaded : Status → Work → Work → Type 0
-LibraryLoaded Accepted old new = LoadsLibrary old.session new.session × (new.answers ≡ [])
-LibraryLoaded Refused old new = (new.session ≡ old.session) × (new.answers ≡ old.answers)
-LibraryLoaded Cut old new = ⊥
-LibraryLoaded NoMemory old new = ⊥
+-- the module of this name is set to this very text
+abbrev pub SetsModule : Loading
+SetsModule name text = ComesTo (set_module name text)
 
-abbrev pub LibraryAt : Status → Option Work → Option Work → Type 0
-LibraryAt status (Some old) (Some new) = LibraryLoaded status old new
-LibraryAt status None None = status ≡ NoMemory
-LibraryAt status (Some old) None = ⊥
-LibraryAt status None (Some new) = ⊥
-
+-- The library is loaded, with its own name and text.
 abbrev pub TellsLibrary : ℕ → Option Work → Option Work → Type 0
-TellsLibrary code old new = (status : Status) × (code ≡ code_of status) × LibraryAt status old new
+TellsLibrary = TellsLoad SetsModule LIBRARY_NAME.now LIBRARY.now
 
 -- ---- trees as text
 

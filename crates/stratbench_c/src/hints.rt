@@ -8,7 +8,7 @@ use observing::{Form, LoadedText, Observer, Screen, Wanted};
 use prim_core::Meaning;
 use script_core::{Framing, Piece, Settings, Watch};
 use session_core::{MAX_BUDGET, Refusal, Session};
-use session_loading::library_text;
+use session_loading::LIBRARY;
 use std::alloc::Global;
 use std::marker::Model;
 
@@ -67,12 +67,7 @@ impl Hints {
             text: Held {
                 text: Vec::new(alloc),
             },
-            observer: Observer::new(
-                alloc,
-                usual(),
-                wanted(false, Form::Text("")),
-                Some(library_text()),
-            ),
+            observer: Observer::new(alloc, usual(), wanted(false, Form::Text("")), Some(LIBRARY)),
         }
     }
 
@@ -92,7 +87,7 @@ impl Hints {
         self.text.text.clear();
     }
 
-    /// Begins a script. `steps`, from 1 to 1,000,000, is the budget of a command that names none.
+    /// Begins a script. `steps` is the budget of a command that names none.
     pub fn begin(&mut self, framing: Framing, steps: u32) {
         self.clear();
         self.observer.begin(Settings {

@@ -2,18 +2,19 @@
 
 ghost use Rattle.std.specs.Prelude.{◌≡◌, ◌⊎◌, Ok, Err, OnOk, OnErr, IfErr};
 ghost use Rattle.session_loading.specs.Loading.{LoadsModule, LoadsTree};
-ghost use Rattle.stratbench_c.specs.Loads.{LibraryAt, LoadedAt, LoadsNamed, TellsLibrary, TellsLoad};
+ghost use Rattle.stratbench_c.specs.Loads.{LoadedAt, LoadsNamed, SetsModule, TellsLibrary, TellsLoad};
+ghost use Rattle.session_loading.specs.declared.library.TheConstants.{LIBRARY, LIBRARY_NAME};
 
 use crate::bench::Bench;
 use crate::status::Status;
 use prim_core::Meaning;
 use session_core::{Refusal, Session};
-use session_loading::{load_library, load_module, load_tree};
+use session_loading::{LIBRARY, LIBRARY_NAME, load_library, load_module, load_tree};
 use std::alloc::Global;
 use term_core::Label;
 
-/// Loads the library as a step. On a new session only want of memory can refuse it. Returns the
-/// number of the status.
+/// Loads the library as a step. The answer is the refusal, if there is one; on a new session only
+/// want of memory can refuse it. Returns the number of the status.
 pub fn set_library(bench: &mut Bench) -> u32
     ensures { TellsLibrary result bench.old.work bench.new.work }
 {
@@ -21,20 +22,16 @@ pub fn set_library(bench: &mut Bench) -> u32
 }
 
 fn library_at(bench: &mut Bench) -> Status
-    ensures { LibraryAt result bench.old.work bench.new.work }
+    ensures { LoadedAt SetsModule LIBRARY_NAME.now LIBRARY.now result bench.old.work bench.new.work }
 {
     let alloc = bench.alloc;
     match &mut bench.work {
         Some(work) => {
-            work.hints.clear();
-            match load_library(alloc, &mut work.session) {
-                Ok(()) => {
-                    work.answers.clear();
-                    work.hints.add_library();
-                    Status::Accepted
-                }
-                Err(_) => Status::Refused,
+            let outcome = load_library(alloc, &mut work.session);
+            if outcome.is_ok() {
+                work.hints.add_library();
             }
+            work.tell("module", LIBRARY_NAME, LIBRARY, outcome)
         }
         None => Status::NoMemory,
     }
