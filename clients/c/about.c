@@ -22,7 +22,9 @@ const char *stratbench_status_text(unsigned status) {
     case 3:
         return "there was no memory to begin: nothing is done";
     case 4:
-        return "the steps are not from 1 to 1,000,000: nothing is done";
+        return "the steps are not from 1 to the greatest budget: nothing is done";
+    case 5:
+        return "the limits are too low or too high: nothing is done";
     default:
         return "no status of the library";
     }

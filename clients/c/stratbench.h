@@ -40,8 +40,10 @@ enum {
     STRATBENCH_CUT = 2,
     /* There was no memory to begin: nothing is done. A handle that found no memory for its session says so at each call. */
     STRATBENCH_NO_MEMORY = 3,
-    /* The steps are not from 1 to 1,000,000: nothing is done. */
-    STRATBENCH_NO_BUDGET = 4
+    /* The steps are not from 1 to the session's greatest budget: nothing is done. */
+    STRATBENCH_NO_BUDGET = 4,
+    /* The limits are too low or too high: nothing is done. */
+    STRATBENCH_NO_LIMITS = 5
 };
 
 /* A session, of which only the address is known. */
@@ -63,8 +65,13 @@ size_t stratbench_size(void);
 /* Makes a session without trees and modules. */
 void stratbench_new(stratbench_session *handle);
 
-/* Loads the library, whose definitions docs/manual/applying.md lists, as a step. On a new session only want of memory can refuse
- * it; the answers are then as before, else there are none. */
+/* Begins the session anew, without trees and modules, with these limits: the greatest size of a term that is set or built, from
+ * 100,000 to 1,000,000,000, and the greatest budget of a command, from 1,000,000 to 4,000,000,000 steps. A new session has the
+ * lowest. For want of memory all stays. */
+uint32_t stratbench_limits(stratbench_session *handle, uint32_t max_terms, uint32_t max_steps);
+
+/* Loads the library, whose definitions docs/manual/applying.md lists, as a step. If it is refused, the answer is the refusal, else
+ * there are no answers. On a new session only want of memory can refuse it. */
 uint32_t stratbench_library(stratbench_session *handle);
 
 /* Sets the module of a name to a text as a file has it, as a step: its lines may begin in the first column. The text may have any
@@ -75,9 +82,8 @@ uint32_t stratbench_module(stratbench_session *handle, const uint8_t *name, size
 uint32_t stratbench_tree(stratbench_session *handle, const uint8_t *name, size_t name_length, const uint8_t *text, size_t length);
 
 /* Answers the commands of a script, which may go on over lines. The last one ends with the script. `steps`, from 1 to
- * 1,000,000, is the budget of an `apply` or `preview` that names none. The limits are those of the program by default: budgets of
- * up to 1,000,000 steps, and terms of up to 100,000. Unless nothing is done, the answers take the place of those of the last
- * call. */
+ * the greatest budget of the session, is the budget of an `apply` or `preview` that names none. Unless nothing is done, the answers
+ * take the place of those of the last call. */
 uint32_t stratbench_run(stratbench_session *handle, const uint8_t *script, size_t length, uint32_t steps);
 
 /* The same, where each line is a command. */

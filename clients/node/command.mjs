@@ -83,6 +83,8 @@ class Run {
   /** A new session, as the options want it. */
   begun() {
     const session = new Bytes(this.engine, this.json ? AS_JSON : AS_TEXT);
+    const { 'max-terms': terms, 'max-steps': steps } = this.line;
+    if (terms || steps) session.limits(terms, steps);
     if (this.line.library) session.library();
     return session;
   }

@@ -8,10 +8,12 @@ export class Wrong extends Error {}
 
 const NAMED = 'NAME=FILE';
 const NAME = /^[A-Za-z_][A-Za-z0-9_\-+*$.']{0,63}$/;
-const MOST_STEPS = 1000000;
+
+/** The lowest and the highest number of an option. */
+const RANGES = { steps: [1, 4000000000], 'max-steps': [1000000, 4000000000], 'max-terms': [100000, 1000000000] };
 
 /** What isn't done here, though the program has it. */
-const LACKS = ['profile', 'check', 'max-steps', 'max-terms'];
+const LACKS = ['profile', 'check'];
 
 /** The options that are taken, of all that the program has. */
 export const taken = options => options.filter(({ name }) => !LACKS.includes(name));
@@ -30,6 +32,9 @@ export function given(words, options) {
     else if (ended || word === '-' || !word.startsWith('-')) file(found, word);
     else take(found, option(word, options), rest);
   }
+  const [greatest] = RANGES['max-steps'];
+  const { steps = 1, 'max-steps': most = greatest } = found;
+  if (steps > most) throw new Wrong(`invalid value '${steps}' for '--steps <N>': the greatest budget is ${most} (--max-steps raises it)`);
   return found;
 }
 
@@ -72,7 +77,10 @@ function once(found, { name, value }) {
 
 function number({ name, value }, text) {
   const found = /^\+?\d+$/.test(text) ? Number(text) : 0;
-  if (found < 1 || found > MOST_STEPS) throw new Wrong(`invalid value '${text}' for '--${name} <${value}>': it has to be from 1 to ${MOST_STEPS}`);
+  const [lowest, highest] = RANGES[name];
+  if (found < lowest || found > highest) {
+    throw new Wrong(`invalid value '${shown(text)}' for '--${name} <${value}>': it has to be from ${lowest} to ${highest}`);
+  }
   return found;
 }
 

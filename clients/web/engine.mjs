@@ -144,7 +144,10 @@ export class Session {
   }
 
   /** Says in which form the calls that follow are explained. */
-  explain(form) { this.engine.call('stratbench_explain', this.handle, form); }
+  explain(form) {
+    this.form = form;
+    this.engine.call('stratbench_explain', this.handle, form);
+  }
 
   /** Answers the commands of a script, which may go on over lines. `steps` is the budget of those that name none. */
   run(script, steps = 100000) {
@@ -154,6 +157,13 @@ export class Session {
   /** Answers the lines of a script, each a command. */
   lines(script, steps = 100000) {
     return this.engine.lend(bytesOf(script), (at, length) => this.ended('stratbench_lines', at, length, steps));
+  }
+
+  /** Begins anew, with these limits: the greatest size of a term, and the greatest budget. */
+  limits(terms = 100000, steps = 1000000) {
+    const status = this.engine.call('stratbench_limits', this.handle, terms, steps);
+    if (status) throw new NotRun(status === NO_MEMORY ? 'there is no memory' : 'the limits are too low or too high');
+    this.explain(this.form);
   }
 
   /** Loads the library as a step. */

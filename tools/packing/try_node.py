@@ -15,14 +15,14 @@ from packing.trials import SECONDS, got, needs, put, session_of_readme, tried, v
 from workbench import TOP, files_of_rows, rows_of
 
 # The options of rows that the package has. A line that is wrong is said in other words, and a refused budget too.
-TAKEN = {"--lines", "--library", "--explain", "--explain=json", "--explain-json", "--module", "--tree", "--write", "--pretty", "--steps", "--stop", "-i", "--interactive", "--version", "-V", "--"}
+TAKEN = {"--lines", "--library", "--explain", "--explain=json", "--explain-json", "--module", "--tree", "--write", "--pretty", "--steps", "--max-steps", "--max-terms", "--stop", "-i", "--interactive", "--version", "-V", "--"}
 ROWS = [(os.path.basename(path), row) for path in files_of_rows() for row in rows_of(path)]
 TESTS = {name: contents(f"{TOP}/clients/node/tests/{name}") for name in sorted(os.listdir(f"{TOP}/clients/node/tests"))}
 
 
 def is_taken(row):
     """Whether the package does what a row asks for: it has the options, and the row is about no wrong one."""
-    options = {it.partition("=")[0] if it.startswith(("--module", "--tree", "--write", "--steps")) else it for it in row.options if it.startswith("-")}
+    options = {it.partition("=")[0] if it.startswith(("--module", "--tree", "--write", "--steps", "--max-")) else it for it in row.options if it.startswith("-")}
     return options <= TAKEN and row.status != 2
 
 

@@ -114,6 +114,31 @@ static void budgets(void) {
     end(handle);
 }
 
+static void limits(void) {
+    stratbench_session *handle = begin();
+    const uint8_t apply[] = "apply t do rec x(id <+ x)";
+    CHECK(run(handle, "tree t f(1)") == STRATBENCH_ACCEPTED);
+    CHECK(stratbench_limits(handle, 99999, 1000000) == STRATBENCH_NO_LIMITS);
+    CHECK(stratbench_limits(handle, 1000000001, 1000000) == STRATBENCH_NO_LIMITS);
+    CHECK(stratbench_limits(handle, 100000, 999999) == STRATBENCH_NO_LIMITS);
+    CHECK(stratbench_limits(handle, 100000, 4000000001) == STRATBENCH_NO_LIMITS);
+    CHECK(answers_are(handle, "ok\n") && run(handle, "trees") == STRATBENCH_ACCEPTED && answers_are(handle, "trees t\n"));
+    CHECK(stratbench_run(handle, apply, sizeof apply - 1, 1000001) == STRATBENCH_NO_BUDGET);
+    CHECK(stratbench_limits(handle, 1000000000, 4000000000) == STRATBENCH_ACCEPTED && answers_are(handle, ""));
+    CHECK(run(handle, "trees\nhistory\ntree t f(1)") == STRATBENCH_ACCEPTED && answers_are(handle, "trees\nundo 0 redo 0\nok\n"));
+    CHECK(stratbench_run(handle, apply, sizeof apply - 1, 4000000000) == STRATBENCH_ACCEPTED && answers_are(handle, "ok\n"));
+    CHECK(stratbench_run(handle, apply, sizeof apply - 1, 4000000001) == STRATBENCH_NO_BUDGET);
+    CHECK(run(handle, "apply t within 2000000 do id") == STRATBENCH_ACCEPTED && answers_are(handle, "ok\n"));
+    /* a term of 131,071, which is too large by default */
+    CHECK(stratbench_library(handle) == STRATBENCH_ACCEPTED);
+    CHECK(run(handle, "module m rules Twice : x -> (x,x)\napply t do Twice; Twice; Twice; Twice; Twice; Twice; Twice; Twice; "
+                      "Twice; Twice; Twice; Twice; Twice; Twice; Twice; Twice") == STRATBENCH_ACCEPTED);
+    /* it begins anew, with lower limits */
+    CHECK(stratbench_limits(handle, 100000, 1000000) == STRATBENCH_ACCEPTED && run(handle, "modules") == STRATBENCH_ACCEPTED);
+    CHECK(answers_are(handle, "modules\n"));
+    end(handle);
+}
+
 static void framings(void) {
     stratbench_session *handle = begin();
     const uint8_t script[] = "  tree t f(1,\n  2)\nshow t\n";
@@ -329,7 +354,7 @@ static void loads_without_memory(void) {
             asked = growths;
             refuse_none();
             if (status != STRATBENCH_ACCEPTED) {
-                CHECK(status == STRATBENCH_REFUSED && answers_are(handle, which == 0 ? "ok\n" : "refused 1 memory\n"));
+                CHECK(status == STRATBENCH_REFUSED && answers_are(handle, "refused 1 memory\n"));
                 CHECK(run(handle, "history") == STRATBENCH_ACCEPTED && answers_are(handle, "undo 1 redo 0\n"));
                 CHECK(load_one(handle, which) == STRATBENCH_ACCEPTED);
             }
@@ -337,6 +362,21 @@ static void loads_without_memory(void) {
             CHECK(run(handle, "history") == STRATBENCH_ACCEPTED && answers_are(handle, "undo 2 redo 0\n"));
             end(handle);
         }
+}
+
+/* One growth after the other is refused while a session begins anew: then it is as it was. */
+static void limits_without_memory(void) {
+    for (unsigned long at = 1, asked = at; at <= asked + 1 && !failed; at++) {
+        stratbench_session *handle = begin_with_list(10);
+        refuse(at, at);
+        uint32_t status = stratbench_limits(handle, 200000, 2000000);
+        asked = growths;
+        refuse_none();
+        CHECK(status == (asked < at ? STRATBENCH_ACCEPTED : STRATBENCH_NO_MEMORY));
+        CHECK(answers_are(handle, asked < at ? "" : "ok\n"));
+        CHECK(run(handle, "trees") == STRATBENCH_ACCEPTED && answers_are(handle, asked < at ? "trees\n" : "trees long\n"));
+        end(handle);
+    }
 }
 
 /* No memory for the session itself. */
@@ -364,7 +404,7 @@ static void about(void) {
     CHECK(strstr(stratbench_misfit(STRATBENCH_VERSION_MAJOR + 1, 0), "another major version") != NULL);
     CHECK(strstr(stratbench_misfit(STRATBENCH_VERSION_MAJOR + 1, 0), STRATBENCH_VERSION) != NULL);
     const char *text = stratbench_status_text(STRATBENCH_ACCEPTED);
-    for (uint32_t status = STRATBENCH_REFUSED; status <= STRATBENCH_NO_BUDGET + 1; status++) {
+    for (uint32_t status = STRATBENCH_REFUSED; status <= STRATBENCH_NO_LIMITS + 1; status++) {
         CHECK(strcmp(text, stratbench_status_text(status)) != 0);
         text = stratbench_status_text(status);
     }
@@ -372,6 +412,7 @@ static void about(void) {
     CHECK(strstr(stratbench_status_text(STRATBENCH_CUT), "the first commands") != NULL);
     CHECK(strstr(stratbench_status_text(STRATBENCH_NO_MEMORY), "no memory") != NULL);
     CHECK(strstr(stratbench_status_text(STRATBENCH_NO_BUDGET), "steps") != NULL);
+    CHECK(strstr(stratbench_status_text(STRATBENCH_NO_LIMITS), "limits") != NULL);
 }
 
 int main(void) {
@@ -379,10 +420,10 @@ int main(void) {
         const char *name;
         void (*trial)(void);
     } trials[] = {
-        {"statuses", statuses}, {"budgets", budgets}, {"framings", framings}, {"copies", copies}, {"loads", loads},
+        {"statuses", statuses}, {"budgets", budgets}, {"limits", limits}, {"framings", framings}, {"copies", copies}, {"loads", loads},
         {"long tree", long_tree}, {"trees shown", trees_shown}, {"explanations", explanations}, {"many calls", many_calls},
         {"side by side", side_by_side}, {"refused growths", refused_growths}, {"limited blocks", limited_blocks},
-        {"loads without memory", loads_without_memory}, {"no session", no_session}, {"what the library says of itself", about},
+        {"loads without memory", loads_without_memory}, {"limits without memory", limits_without_memory}, {"no session", no_session}, {"what the library says of itself", about},
     };
     int wrong = 0;
     for (size_t i = 0; i < sizeof trials / sizeof *trials; i++) {

@@ -138,7 +138,7 @@ class Stratbench:
         >>> bench.show("t", at=[1] * 16)
         'a'
 
-    An `embedded` session takes no options and no `seconds`, keeps the default limits, and isn't stopped by Ctrl-C. The shared
+    An `embedded` session takes no options and no `seconds`, and isn't stopped by Ctrl-C. The shared
     object is `program`, or what the environment's STRATBENCH_LIBRARY names, or `libstratbench.so`. It is used by one thread at a
     time.
 
@@ -176,10 +176,8 @@ class Stratbench:
         if embedded:
             if options or seconds is not None:
                 raise ValueError("an embedded session takes no options and no seconds")
-            if max_steps not in (None, _MOST_STEPS) or max_terms not in (None, _MOST_TERMS):
-                raise ValueError(f"an embedded session keeps the default limits: {_MOST_STEPS:,} steps and {_MOST_TERMS:,} terms")
-            path = installed.library(program)
-            self._process = Embedded(path, library, _STEPS if steps is None else steps)
+            limits = (_MOST_TERMS if max_terms is None else max_terms, _MOST_STEPS if max_steps is None else max_steps)
+            self._process = Embedded(installed.library(program), library, _STEPS if steps is None else steps, limits)
             return
         words = [installed.program(program), *options]
         versions.check_program(words[0])

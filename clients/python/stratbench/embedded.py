@@ -14,6 +14,9 @@ from . import versions
 # What the calls return, as clients/c/stratbench.h says.
 _REFUSED: Final = 1
 _NO_BUDGET: Final = 4
+_NO_LIMITS: Final = 5
+# The greatest number that a call takes.
+_MOST: Final = (1 << 32) - 1
 # Explanations are wanted as JSON.
 _AS_JSON: Final = 2
 
@@ -24,7 +27,7 @@ class Embedded:
     # Each text that is sent is a script of its own.
     goes_on: Final = False
 
-    def __init__(self, path: str, library: bool, steps: int) -> None:
+    def __init__(self, path: str, library: bool, steps: int, limits: tuple[int, int]) -> None:
         self._calls = _calls_of(path)
         size = self._calls.stratbench_size()
         # the bytes at the handle, with room to align it
@@ -39,7 +42,12 @@ class Embedded:
         """The exit status, once the session has ended."""
         self._calls.stratbench_new(self._handle)
         self._drop = weakref.finalize(self, _drop, os.getpid(), self._calls.stratbench_drop, self._handle, self._memory)
-        if self._calls.stratbench_explain(self._handle, _AS_JSON) or library and self._calls.stratbench_library(self._handle):
+        # a number that C can't have is out of range, too
+        limited = self._calls.stratbench_limits(self._handle, *(max(0, min(it, _MOST)) for it in limits))
+        if limited == _NO_LIMITS:
+            self._drop()
+            raise ValueError("the limits are too low or too high")
+        if limited or self._calls.stratbench_explain(self._handle, _AS_JSON) or library and self._calls.stratbench_library(self._handle):
             self._drop()
             raise MemoryError("no memory for a session")
 
@@ -54,7 +62,7 @@ class Embedded:
             self._got += self._copied(self._calls.stratbench_copy)
         self._worst = max(self._worst, status)
         if status == _NO_BUDGET:
-            raise ValueError("the steps are not from 1 to 1,000,000")
+            raise ValueError("the steps are not from 1 to the greatest budget")
         if status > _REFUSED:
             raise MemoryError("no memory for an answer")
 
@@ -106,6 +114,7 @@ def _calls_of(path: str) -> ctypes.CDLL:
     for name, given, result in (
         ("size", (), length),
         ("new", (pointer,), None),
+        ("limits", (pointer, number, number), number),
         ("library", (pointer,), number),
         ("explain", (pointer, number), number),
         ("run", (pointer, ctypes.c_char_p, length, number), number),

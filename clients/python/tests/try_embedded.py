@@ -44,12 +44,17 @@ def ends():
         except Refused as refused:
             yield "a refusal", "" if refused.explanation == "there is no tree `t`\n    there are no trees" else str(refused)
     yield "the status after a refusal", "" if bench.close() == 1 else f"{bench.close()}"
-    for given in ({"steps": 2_000_000}, {"options": ["--lines"]}, {"seconds": 1}, {"max_steps": 2_000_000}, {"max_terms": 200_000}):
+    for given in ({"steps": 2_000_000}, {"options": ["--lines"]}, {"seconds": 1}, {"max_steps": 999_999}, {"max_steps": 1 << 33}, {"max_terms": -1}):
         try:
             EMBEDDED(**given).trees()
             yield f"a start with {list(given)}", "it began"
         except ValueError:
             yield f"a start with {list(given)}", ""
+    with EMBEDDED(steps=2_000_000, max_steps=2_000_000, max_terms=131_071) as bench:
+        bench.module("m", "rules Twice : x -> (x,x)")
+        bench.tree("t", "a")
+        bench.apply("t", "; ".join(["Twice"] * 16))
+        yield "greater limits", "" if bench.show("t", at=[1] * 16) == "a" else "another term"
     try:
         EMBEDDED(program="/none/libstratbench.so")
         yield "no shared object", "it began"

@@ -4,8 +4,10 @@ use Rattle.std.specs.declared.option.Option.{Option}
 use Rattle.prim_extended.specs.Extended.{extended}
 use Rattle.prim_extended.specs.ExtendedTable.{extended_signatures}
 use Rattle.session_history.specs.Budget.{IsBudget}
-use Rattle.session_history.specs.declared.TheConstants.{MAX_BUDGET}
-use Rattle.session_history.specs.History.{History, empty_history}
+use Rattle.term_core.specs.declared.TheConstants.{MAX_ROOM}
+use Rattle.session_history.specs.declared.TheConstants.{MAX_BUDGET, MOST_STEPS}
+use Rattle.session_history.specs.declared.limits.Limits.{Limits}
+use Rattle.session_history.specs.History.{History, empty_within, default_limits}
 use Rattle.script_text.specs.declared.framing.Framing.{Framing}
 use Rattle.script_text.specs.Handed.{Handed, handed}
 use Rattle.script_text.specs.Replies.{Replying}
@@ -14,7 +16,7 @@ use Rattle.script_text.specs.Run.{Completes}
 use Rattle.stratbench_c.specs.declared.bench.Work.{Work}
 use Rattle.stratbench_c.specs.declared.status.Status.{Status}
 use Rattle.stratbench_c.specs.declared.status.Status.TheVariants.{Accepted, Refused, Cut, NoMemory}
-use Rattle.stratbench_c.specs.declared.status.TheConstants.{NO_BUDGET}
+use Rattle.stratbench_c.specs.declared.status.TheConstants.{NO_BUDGET, NO_LIMITS}
 use Rattle.stratbench_c.specs.Status.{code_of}
 
 -- One more command is answered, after the others.
@@ -56,15 +58,44 @@ RanAt framing steps script status None None = status ≡ NoMemory
 RanAt framing steps script status (Some old) None = ⊥
 RanAt framing steps script status None (Some new) = ⊥
 
+-- the greatest budget at a handle
+abbrev pub most_steps : Option Work → ℕ
+most_steps None = MAX_BUDGET
+most_steps (Some work) = work.session.limits.max_steps
+
 -- What a call does, by its number: nothing if the budget is out of range.
 abbrev pub TellsRun : Framing → ℕ → List ℕ → ℕ → Option Work → Option Work → Type 0
 TellsRun framing steps script code old new =
-    ((code ≡ NO_BUDGET) × (IsBudget MAX_BUDGET steps → ⊥) × (new ≡ old))
-    ⊎ (IsBudget MAX_BUDGET steps × ((status : Status) × (code ≡ code_of status) × RanAt framing steps script status old new))
+    ((code ≡ NO_BUDGET) × (IsBudget (most_steps old) steps → ⊥) × (new ≡ old))
+    ⊎ (IsBudget (most_steps old) steps × ((status : Status) × (code ≡ code_of status) × RanAt framing steps script status old new))
+
+-- a session without trees and modules that has these limits, and nothing was answered or said
+abbrev pub IsNewWithin : Limits → Work → Type 0
+IsNewWithin limits it = (it.session ≡ empty_within limits extended_signatures) × (it.answers ≡ []) × (it.hints ≡ [])
 
 -- what lies at a new handle
 abbrev pub IsNew : Option Work → Type 0
-IsNew work = IfSome work (λ it. (it.session ≡ empty_history extended_signatures) × (it.answers ≡ []) × (it.hints ≡ []))
+IsNew work = IfSome work (IsNewWithin default_limits)
+
+-- ---- limits
+
+-- These are limits: at least those by default, and at most 1,000,000,000 terms and 4,000,000,000 steps.
+abbrev pub AreLimits : Limits → Type 0
+AreLimits limits =
+    (default_limits.max_terms ≤ limits.max_terms) × (limits.max_terms ≤ MAX_ROOM)
+    × (default_limits.max_steps ≤ limits.max_steps) × (limits.max_steps ≤ MOST_STEPS)
+
+-- The session begins anew with these limits; or all stays, for want of memory.
+abbrev pub LimitedAt : Limits → Status → Option Work → Option Work → Type 0
+LimitedAt limits Accepted (Some old) (Some new) = IsNewWithin limits new
+LimitedAt limits NoMemory old new = new ≡ old
+LimitedAt limits status old new = ⊥
+
+-- What a call does, by its number: nothing if these are no limits.
+abbrev pub TellsLimited : Limits → ℕ → Option Work → Option Work → Type 0
+TellsLimited limits code old new =
+    ((code ≡ NO_LIMITS) × (AreLimits limits → ⊥) × (new ≡ old))
+    ⊎ (AreLimits limits × ((status : Status) × (code ≡ code_of status) × LimitedAt limits status old new))
 
 -- the answers of the last call
 abbrev pub answers_of : Option Work → List ℕ

@@ -1,23 +1,23 @@
 //! What lies at a handle.
 
-ghost use Rattle.std.specs.Prelude.{◌≡◌, [], IfErr, IfOk, OnErr, OnOk};
+ghost use Rattle.std.specs.Prelude.{◌≡◌, ◌≤◌, [], IfErr, IfOk, OnErr, OnOk};
 ghost use Rattle.prim_extended.specs.Extended.{extended};
-ghost use Rattle.prim_extended.specs.ExtendedTable.{extended_signatures};
-ghost use Rattle.session_history.specs.History.{empty_history};
+ghost use Rattle.term_core.specs.declared.TheConstants.{MAX_ROOM};
 ghost use Rattle.script_text.specs.Answer.{ReplyInRun, TellsRefusal};
 ghost use Rattle.script_text.specs.FedRight.{handed_out};
 ghost use Rattle.script_text.specs.declared.framing.Framing.TheVariants.{Continued, Lines};
-ghost use Rattle.stratbench_c.specs.Runs.{Adds, AreCopied, ExplainedAt, IsNew, Ran, RanAt, TellsExplained, TellsRun, answers_of, hints_of};
+ghost use Rattle.stratbench_c.specs.Runs.{Adds, AreCopied, ExplainedAt, IsNew, IsNewWithin, LimitedAt, Ran, RanAt, TellsExplained, TellsLimited, TellsRun, answers_of, hints_of, most_steps as most_steps_of};
 
 use crate::answers::Answers;
 use crate::hints::Hints;
-use crate::status::{NO_BUDGET, Status};
+use crate::status::{NO_BUDGET, NO_LIMITS, Status};
 use prim_core::Primitives;
 use prim_extended::{Extended, extended_primitives};
 use script_core::{Fed, Framing, Piece, Splitter};
-use session_core::{MAX_BUDGET, Refusal, Session};
+use session_core::{Limits, MAX_BUDGET, Refusal, Session};
+use session_history::MOST_STEPS;
 use std::alloc::Global;
-use term_core::NoMemory;
+use term_core::{MAX_ROOM, NoMemory};
 
 /// What lies at a handle: a session with the answers of the last call. There is none if there was
 /// no memory for it at the start.
@@ -37,13 +37,14 @@ pub struct Work {
 
 impl Work {
     /// A session without trees and modules.
-    pub fn new(alloc: Global) -> Result<Work, NoMemory>
-        ensures { IfOk result (λ work. (work.session ≡ empty_history extended_signatures) × (work.answers ≡ []) × (work.hints ≡ [])) }
+    pub fn new(alloc: Global, limits: Limits) -> Result<Work, NoMemory>
+        requires { limits.max_terms ≤ MAX_ROOM }
+        ensures { IfOk result (IsNewWithin limits) }
     {
         let primitives = extended_primitives(alloc)?;
         let answers = Answers::new(alloc)?;
         Ok(Work {
-            session: Session::new(alloc, Primitives::new(primitives)),
+            session: Session::with_limits(alloc, Primitives::new(primitives), limits),
             answers,
             hints: Hints::new(alloc),
         })
@@ -114,11 +115,47 @@ impl Work {
 pub fn make(alloc: Global) -> Bench
     ensures { IsNew result.work }
 {
-    let work = match Work::new(alloc) {
+    let work = match Work::new(alloc, Limits::default()) {
         Ok(work) => Some(work),
         Err(NoMemory) => None,
     };
     Bench { alloc, work }
+}
+
+/// Begins the session anew, with these limits: a number of terms from 100,000 to 1,000,000,000, and a
+/// number of steps from 1,000,000 to 4,000,000,000. Returns the number of the status, or `NO_LIMITS`.
+pub fn set_limits(bench: &mut Bench, max_terms: u32, max_steps: u32) -> u32
+    ensures { TellsLimited (record { max_terms = max_terms; max_steps = max_steps }) result bench.old.work bench.new.work }
+{
+    let usual = Limits::default();
+    if max_terms < usual.max_terms || max_terms > MAX_ROOM {
+        return NO_LIMITS;
+    }
+    if max_steps < usual.max_steps || max_steps > MOST_STEPS {
+        return NO_LIMITS;
+    }
+    let limits = Limits {
+        max_terms,
+        max_steps,
+    };
+    limited_at(bench, limits).code()
+}
+
+fn limited_at(bench: &mut Bench, limits: Limits) -> Status
+    requires { limits.max_terms ≤ MAX_ROOM }
+    ensures { LimitedAt limits result bench.old.work bench.new.work }
+{
+    let alloc = bench.alloc;
+    let Some(work) = &mut bench.work else {
+        return Status::NoMemory;
+    };
+    match Work::new(alloc, limits) {
+        Ok(new) => {
+            *work = new;
+            Status::Accepted
+        }
+        Err(NoMemory) => Status::NoMemory,
+    }
 }
 
 /// Answers the commands of a script, which may go on over lines. Returns the number of its status,
@@ -139,10 +176,20 @@ pub fn run_lines(bench: &mut Bench, script: &[u8], steps: u32) -> u32
 fn run(bench: &mut Bench, script: &[u8], framing: Framing, steps: u32) -> u32
     ensures { TellsRun framing steps script.now result bench.old.work bench.new.work }
 {
-    if steps < 1 || steps > MAX_BUDGET {
+    if steps < 1 || steps > most_steps(bench) {
         return NO_BUDGET;
     }
     run_work(bench, script, framing, steps).code()
+}
+
+// The greatest budget of the session.
+fn most_steps(bench: &Bench) -> u32
+    ensures { result ≡ most_steps_of bench.now.work }
+{
+    match &bench.work {
+        Some(work) => work.session.limits().max_steps,
+        None => MAX_BUDGET,
+    }
 }
 
 fn run_work(bench: &mut Bench, script: &[u8], framing: Framing, steps: u32) -> Status

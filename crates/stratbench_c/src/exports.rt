@@ -3,7 +3,7 @@
 ghost use Rattle.script_text.specs.declared.framing.Framing.TheVariants.{Continued, Lines};
 ghost use Rattle.session_loading.specs.Loading.{LoadsModule, LoadsTree};
 ghost use Rattle.stratbench_c.specs.Loads.{TellsLibrary, TellsLoad, TellsShown};
-ghost use Rattle.stratbench_c.specs.Runs.{AreCopied, IsNew, TellsExplained, TellsRun, answers_of, hints_of};
+ghost use Rattle.stratbench_c.specs.Runs.{AreCopied, IsNew, TellsExplained, TellsLimited, TellsRun, answers_of, hints_of};
 ghost use Rattle.stratbench_c.specs.declared.bench.Bench.{Bench as AnyBench};
 ghost use Rattle.stratbench_c.specs.contracts.bench.Bench as R;
 ghost use Rattle.std.specs.Prelude.{◌≡◌};
@@ -14,7 +14,7 @@ ghost use types.Logic.{sem};
 ghost use denote.RawPtr.{lies_at, room_at};
 
 use crate::bench::{
-    Bench, copy_answers, copy_hints, end, explain_calls, make, run_lines, run_script,
+    Bench, copy_answers, copy_hints, end, explain_calls, make, run_lines, run_script, set_limits,
 };
 use crate::loads::{set_library, set_module, set_tree};
 use crate::showing::show_tree;
@@ -36,6 +36,17 @@ pub unsafe extern "C" fn stratbench_new(alloc: Global, handle: *mut u8)
         ∗ ⌜ IsNew new.work ⌝) }
 {
     (handle as *mut Bench).write(make(alloc));
+}
+
+/// Begins the session anew, with these limits of terms and steps.
+#[unsafe(no_mangle)]
+pub unsafe extern "C" fn stratbench_limits(handle: *mut u8, max_terms: u32, max_steps: u32) -> u32
+    ghost old: { AnyBench }
+    requires* { sem 𝓛 (lies_at R.the_row full_share handle old) }
+    ensures* { ∃ₛ (λ (new : AnyBench). sem 𝓛 (lies_at R.the_row full_share handle new)
+        ∗ ⌜ TellsLimited (record { max_terms = max_terms; max_steps = max_steps }) result old.work new.work ⌝) }
+{
+    set_limits(&mut *(handle as *mut Bench), max_terms, max_steps)
 }
 
 /// Loads the library as a step.

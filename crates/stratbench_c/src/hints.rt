@@ -77,9 +77,11 @@ impl Hints {
         self.observer.want(wanted(explains, form));
     }
 
-    /// The library was loaded.
-    pub fn add_library(&mut self) {
-        self.observer.add_library();
+    /// Whether the library was loaded.
+    pub fn add_library(&mut self, outcome: &Result<(), Refusal>) {
+        if outcome.is_ok() {
+            self.observer.add_library();
+        }
     }
 
     /// Begins a call that isn't a script. Nothing is said of it so far.

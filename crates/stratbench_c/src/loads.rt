@@ -28,9 +28,7 @@ fn library_at(bench: &mut Bench) -> Status
     match &mut bench.work {
         Some(work) => {
             let outcome = load_library(alloc, &mut work.session);
-            if outcome.is_ok() {
-                work.hints.add_library();
-            }
+            work.hints.add_library(&outcome);
             work.tell("module", LIBRARY_NAME, LIBRARY, outcome)
         }
         None => Status::NoMemory,

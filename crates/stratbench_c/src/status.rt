@@ -16,8 +16,11 @@ pub enum Status {
     NoMemory,
 }
 
-/// The number for a budget that is not from 1 to 1,000,000.
+/// The number for a budget that is not from 1 to the session's greatest.
 pub const NO_BUDGET: u32 = 4;
+
+/// The number for limits that are lower than those by default, or higher than the highest.
+pub const NO_LIMITS: u32 = 5;
 
 impl Status {
     /// The status of a script whose commands are all answered.
