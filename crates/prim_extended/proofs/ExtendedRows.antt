@@ -1,7 +1,7 @@
 -- The meaning of the extended primitives, computed on worked rows.
 use Rattle.std.proofs.Common.{◌≡◌, ◌-◌, ◌^◌, [], ◌∷◌, Some, None, refl, codes}
 use Rattle.std.specs.Prelude.{ℕ, ℤ, pos, negsuc, List}
-use Rattle.term_core.specs.Tree.{Tree, integer, none, more, integer_term, list_term, tuple_term}
+use Rattle.term_core.specs.Tree.{Tree, application, integer, branch, none, more, integer_term, application_term, list_term, tuple_term}
 use Rattle.prim_core.specs.Values.{string_term}
 use Rattle.prim_core.specs.Standard.{standard}
 use Rattle.prim_extended.specs.Extended.{extended}
@@ -78,6 +78,36 @@ least_by_minus_one = refl
 
 divided_by_zero : extended (codes "modi") (integers (pos 7) (pos 0)) ≡ None
 divided_by_zero = refl
+
+-- ---- constructors
+
+abbrev word : List ℕ → List Tree → Tree
+word text us = application_term (record { text = text; is_quoted = false }) us
+
+taken_apart : extended (codes "explode-term") (branch (application (record { text = codes "F"; is_quoted = false })) (more (noted (pos 1)) none) (more (integer_term (pos 3)) none) ∷ [])
+    ≡ Some (tuple_term (pair (string_term (codes "F")) (list_term (noted (pos 1) ∷ []))))
+taken_apart = refl
+
+string_taken_apart : extended (codes "explode-term") (string_term (codes "a") ∷ []) ≡ Some (tuple_term (pair (string_term (34 ∷ 97 ∷ 34 ∷ [])) (list_term [])))
+string_taken_apart = refl
+
+put_together : extended (codes "mkterm") (pair (string_term (codes "F")) (list_term (integer_term (pos 1) ∷ []))) ≡ Some (word (codes "F") (integer_term (pos 1) ∷ []))
+put_together = refl
+
+string_put_together : extended (codes "mkterm") (pair (string_term (34 ∷ 97 ∷ 34 ∷ 98 ∷ 34 ∷ [])) (list_term [])) ≡ Some (string_term (97 ∷ 34 ∷ 98 ∷ []))
+string_put_together = refl
+
+half_quoted : extended (codes "mkterm") (pair (string_term (34 ∷ 97 ∷ [])) (list_term [])) ≡ None
+half_quoted = refl
+
+one_quote : extended (codes "mkterm") (pair (string_term (34 ∷ [])) (list_term [])) ≡ None
+one_quote = refl
+
+no_word : extended (codes "mkterm") (pair (string_term (codes "a b")) (list_term [])) ≡ None
+no_word = refl
+
+integer_with_children : extended (codes "mkterm") (pair (integer_term (pos 7)) (list_term (integer_term (pos 1) ∷ []))) ≡ None
+integer_with_children = refl
 
 -- ---- the names of the standard primitives, on all terms
 

@@ -1,3 +1,5 @@
 pub mod AnnotationLemmas
 pub mod BytesLemmas
 pub mod ExtendedRows
+pub mod QuoteLemmas
+pub mod ConstructorLemmas

@@ -1,5 +1,6 @@
 pub mod Bytes
 pub mod Remainder
 pub mod Annotations
+pub mod Constructors
 pub mod Extended
 pub mod ExtendedTable

@@ -5,6 +5,7 @@ ghost use Rattle.prim_extended.specs.Extended.{extended};
 ghost use Rattle.prim_extended.specs.ExtendedTable.{arity_of, extended_signatures, name_of};
 
 use crate::annotations::{eq_ignore_annos, strip_annos};
+use crate::constructors::{explode_term, mkterm};
 use crate::integers::modi;
 use crate::strings::{explode_string, gts, implode_string};
 use prim_core::{
@@ -32,11 +33,13 @@ pub enum ExtendedOperation {
     Modi,
     StripAnnos,
     EqIgnoreAnnos,
+    ExplodeTerm,
+    Mkterm,
 }
 
 use ExtendedOperation::{
-    Addi, Divi, EqIgnoreAnnos, ExplodeString, Gti, Gts, ImplodeString, IntToString, Modi, Muli,
-    Strcat, StringToInt, StripAnnos, Strlen, Subti,
+    Addi, Divi, EqIgnoreAnnos, ExplodeString, ExplodeTerm, Gti, Gts, ImplodeString, IntToString,
+    Mkterm, Modi, Muli, Strcat, StringToInt, StripAnnos, Strlen, Subti,
 };
 
 impl Operation for ExtendedOperation {
@@ -61,6 +64,8 @@ impl Operation for ExtendedOperation {
             Modi => modi(alloc, arguments),
             StripAnnos => strip_annos(alloc, arguments),
             EqIgnoreAnnos => eq_ignore_annos(alloc, arguments),
+            ExplodeTerm => explode_term(alloc, arguments),
+            Mkterm => mkterm(alloc, arguments),
         }
     }
 }
@@ -96,6 +101,8 @@ pub fn extended_primitives(alloc: Global) -> Result<Vec<Primitive<Extended>>, No
     add(alloc, &mut primitives, b"modi", 2, Modi)?;
     add(alloc, &mut primitives, b"strip-annos", 1, StripAnnos)?;
     add(alloc, &mut primitives, b"eq-ignore-annos", 2, EqIgnoreAnnos)?;
+    add(alloc, &mut primitives, b"explode-term", 1, ExplodeTerm)?;
+    add(alloc, &mut primitives, b"mkterm", 2, Mkterm)?;
     Ok(primitives)
 }
 

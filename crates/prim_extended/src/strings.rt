@@ -12,7 +12,8 @@ use prim_core::standard::arguments::{one_string, two_strings};
 use std::alloc::Global;
 use term_core::{Name, NoMemory, Term};
 
-fn string(alloc: Global, bytes: &[u8]) -> Result<Term, NoMemory>
+/// The string with these bytes.
+pub(crate) fn string(alloc: Global, bytes: &[u8]) -> Result<Term, NoMemory>
     ensures { IfOk result (λ term. term ≡ string_term bytes.now) }
 {
     let name = Name::quoted(alloc, bytes)?;
