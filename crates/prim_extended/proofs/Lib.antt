@@ -3,3 +3,4 @@ pub mod BytesLemmas
 pub mod ExtendedRows
 pub mod QuoteLemmas
 pub mod ConstructorLemmas
+pub mod GreatestLemmas

@@ -1,4 +1,4 @@
--- The meaning of the extended primitives: the standard ones, and eight more.
+-- The meaning of the extended primitives: the standard ones, and nine more.
 use Rattle.std.specs.Prelude.{ℕ, List, if◌then◌else◌, codes}
 use Rattle.std.specs.declared.option.Option.{Option}
 use Rattle.std.specs.Str.{bytes_eq}
@@ -7,6 +7,7 @@ use Rattle.prim_core.specs.Standard.{standard}
 use Rattle.prim_extended.specs.Annotations.{stripped_of, equal_of}
 use Rattle.prim_extended.specs.Bytes.{exploded_of, imploded_of, later_of}
 use Rattle.prim_extended.specs.Constructors.{taken_apart_of, put_together_of}
+use Rattle.prim_extended.specs.Greatest.{greatest_of}
 use Rattle.prim_extended.specs.Remainder.{remainder_of}
 
 -- by name; any other name means what it does among the standard primitives
@@ -18,6 +19,7 @@ extended name arguments =
     if (bytes_eq name (codes "modi")) then remainder_of arguments else
     if (bytes_eq name (codes "explode-term")) then taken_apart_of arguments else
     if (bytes_eq name (codes "mkterm")) then put_together_of arguments else
+    if (bytes_eq name (codes "greatest-number")) then greatest_of arguments else
     if (bytes_eq name (codes "strip-annos")) then stripped_of arguments else
     if (bytes_eq name (codes "eq-ignore-annos")) then equal_of arguments else
     standard name arguments

@@ -3,7 +3,7 @@ use Rattle.std.specs.Prelude.{ℕ, List, [], ◌∷◌, ◌++◌, codes}
 use Rattle.prim_core.specs.Signature.{Signature}
 use Rattle.prim_core.specs.StandardTable.{standard_signatures}
 use Rattle.prim_extended.specs.declared.operations.ExtendedOperation.{ExtendedOperation}
-use Rattle.prim_extended.specs.declared.operations.ExtendedOperation.TheVariants.{Addi, Subti, Muli, Divi, Gti, Strcat, Strlen, IntToString, StringToInt, ExplodeString, ImplodeString, Gts, Modi, StripAnnos, EqIgnoreAnnos, ExplodeTerm, Mkterm}
+use Rattle.prim_extended.specs.declared.operations.ExtendedOperation.TheVariants.{Addi, Subti, Muli, Divi, Gti, Strcat, Strlen, IntToString, StringToInt, ExplodeString, ImplodeString, Gts, Modi, StripAnnos, EqIgnoreAnnos, ExplodeTerm, Mkterm, GreatestNumber}
 
 abbrev signature : List ℕ → ℕ → Signature
 signature name arity = record { name = name; arity = arity }
@@ -14,7 +14,8 @@ extended_signatures = standard_signatures
     ++ (signature (codes "explode-string") 1 ∷ (signature (codes "implode-string") 1
     ∷ (signature (codes "gts") 2 ∷ (signature (codes "modi") 2
     ∷ (signature (codes "strip-annos") 1 ∷ (signature (codes "eq-ignore-annos") 2
-    ∷ (signature (codes "explode-term") 1 ∷ (signature (codes "mkterm") 2 ∷ []))))))))
+    ∷ (signature (codes "explode-term") 1 ∷ (signature (codes "mkterm") 2
+    ∷ (signature (codes "greatest-number") 2 ∷ [])))))))))
 
 -- ---- each as a value
 
@@ -36,6 +37,7 @@ name_of StripAnnos = codes "strip-annos"
 name_of EqIgnoreAnnos = codes "eq-ignore-annos"
 name_of ExplodeTerm = codes "explode-term"
 name_of Mkterm = codes "mkterm"
+name_of GreatestNumber = codes "greatest-number"
 
 abbrev pub arity_of : ExtendedOperation → ℕ
 arity_of Addi = 2
@@ -55,3 +57,4 @@ arity_of StripAnnos = 1
 arity_of EqIgnoreAnnos = 2
 arity_of ExplodeTerm = 1
 arity_of Mkterm = 2
+arity_of GreatestNumber = 2

@@ -1,11 +1,12 @@
-//! The standard primitives and eight more: strings as lists of bytes, the order of strings,
-//! remainders, terms without annotations, equality but for these, and terms as constructors with
-//! children.
+//! The standard primitives and nine more: strings as lists of bytes, the order of strings,
+//! remainders, terms without annotations, equality but for these, terms as constructors with
+//! children, and the greatest number after a beginning of strings.
 #![tactic(auto)]
 
 pub mod annotations;
 mod arguments;
 pub mod constructors;
+pub mod greatest;
 pub mod integers;
 pub mod laws;
 pub mod operations;
@@ -13,6 +14,7 @@ pub mod strings;
 
 pub use annotations::{eq_ignore_annos, strip_annos};
 pub use constructors::{explode_term, mkterm};
+pub use greatest::greatest_number;
 pub use integers::modi;
 pub use operations::{Extended, ExtendedOperation, extended_primitives};
 pub use strings::{explode_string, gts, implode_string};

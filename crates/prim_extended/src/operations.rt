@@ -6,6 +6,7 @@ ghost use Rattle.prim_extended.specs.ExtendedTable.{arity_of, extended_signature
 
 use crate::annotations::{eq_ignore_annos, strip_annos};
 use crate::constructors::{explode_term, mkterm};
+use crate::greatest::greatest_number;
 use crate::integers::modi;
 use crate::strings::{explode_string, gts, implode_string};
 use prim_core::{
@@ -35,11 +36,12 @@ pub enum ExtendedOperation {
     EqIgnoreAnnos,
     ExplodeTerm,
     Mkterm,
+    GreatestNumber,
 }
 
 use ExtendedOperation::{
-    Addi, Divi, EqIgnoreAnnos, ExplodeString, ExplodeTerm, Gti, Gts, ImplodeString, IntToString,
-    Mkterm, Modi, Muli, Strcat, StringToInt, StripAnnos, Strlen, Subti,
+    Addi, Divi, EqIgnoreAnnos, ExplodeString, ExplodeTerm, GreatestNumber, Gti, Gts, ImplodeString,
+    IntToString, Mkterm, Modi, Muli, Strcat, StringToInt, StripAnnos, Strlen, Subti,
 };
 
 impl Operation for ExtendedOperation {
@@ -66,6 +68,7 @@ impl Operation for ExtendedOperation {
             EqIgnoreAnnos => eq_ignore_annos(alloc, arguments),
             ExplodeTerm => explode_term(alloc, arguments),
             Mkterm => mkterm(alloc, arguments),
+            GreatestNumber => greatest_number(alloc, arguments),
         }
     }
 }
@@ -103,6 +106,13 @@ pub fn extended_primitives(alloc: Global) -> Result<Vec<Primitive<Extended>>, No
     add(alloc, &mut primitives, b"eq-ignore-annos", 2, EqIgnoreAnnos)?;
     add(alloc, &mut primitives, b"explode-term", 1, ExplodeTerm)?;
     add(alloc, &mut primitives, b"mkterm", 2, Mkterm)?;
+    add(
+        alloc,
+        &mut primitives,
+        b"greatest-number",
+        2,
+        GreatestNumber,
+    )?;
     Ok(primitives)
 }
 

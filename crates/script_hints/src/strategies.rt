@@ -11,7 +11,7 @@ lists remove-all zip unzip take drop merge-sort merge-runs merge-neighbours merg
 lists diff foldr foldl
 names explode-string implode-string conc-strings concat-strings string-length string-gt string-lt
 names without-prefix skip to-upper to-lower upper-case lower-case capitalize-string newname
-names newnames renaming rename try-rename rename-apart
+names newnames greatest-number fresh-number fresh-name renaming rename try-rename rename-apart
 numbers add subt mul div mod inc dec gt lt geq leq max min is-int even int-to-string string-to-int
 terms get-arguments take-arguments crush collect-all collect-all-of-each collect collect-of-each
 terms subterms occurrences occurrences-in-each substitute preserve-annos eq-ignore-annos
