@@ -1,5 +1,5 @@
 -- The meaning of the extended primitives, computed on worked rows.
-use Rattle.std.proofs.Common.{◌≡◌, ◌-◌, ◌^◌, [], ◌∷◌, Some, None, refl, codes}
+use Rattle.std.proofs.Common.{◌≡◌, ◌-◌, ◌^◌, false, [], ◌∷◌, Some, None, refl, codes}
 use Rattle.std.specs.Prelude.{ℕ, ℤ, pos, negsuc, List}
 use Rattle.term_core.specs.Tree.{Tree, application, integer, branch, none, more, integer_term, application_term, list_term, tuple_term}
 use Rattle.prim_core.specs.Values.{string_term}
