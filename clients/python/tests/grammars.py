@@ -30,8 +30,10 @@ def anew(source):
     patcher = Patcher(dialect, source.text, source.term, source.term, source._again)
     new = bare(dialect.grammar, source.term)
     templates = Templates(dialect, patcher.layout, dialect.style(patcher.layout))
-    Nodes(dialect.grammar, patcher.layout, templates, lambda old: False)
+    # the templates know it weakly
+    nodes = Nodes(dialect.grammar, patcher.layout, templates, lambda old: False)
     edits = [RopeEdit(0, len(source.text), templates._fresh(new, b""))]
+    del nodes
     return Search(dialect, source.text, new, edits, templates, patcher.layout.newline, source._again).found([], is_least=False).text
 
 

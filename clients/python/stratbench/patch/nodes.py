@@ -3,6 +3,7 @@
 from __future__ import annotations
 
 import re
+import weakref
 from collections.abc import Callable
 from typing import NamedTuple, Optional
 
@@ -33,12 +34,14 @@ class Nodes:
         self, grammar: Grammar, layout: Layout, templates: Templates, is_present: Callable[[Term], bool], needed_before: NeededBefore = lambda old: None
     ) -> None:
         self._grammar, self._layout, self._templates, self._needed_before = grammar, layout, templates, needed_before
-        self._lists = Lists(grammar, layout, templates, self, is_present)
+        # who is in this knows it weakly, so that the trees go when it goes, and not when memory is searched for cycles
+        inside = weakref.proxy(self)
+        self._lists = Lists(grammar, layout, templates, inside, is_present)
         self._is_present = is_present
         self.frames: list[Frame] = []
         # whether a node of which a field of its own changes is made anew
         self.coarse = False
-        templates.inside = self
+        templates.inside = inside
 
     def slot(self, old: Term, new: Term, plain: bool = False) -> list[RopeEdit]:
         """Returns the edits where a node comes in the place of an old one."""
