@@ -10,7 +10,8 @@ from stratbench import python
 from stratbench.concrete.adapter import adapter_of
 from stratbench.concrete.compiling import applied, compile_rule
 from stratbench.concrete.text import Source
-from stratbench.refactor import Bench, Task, runs
+from stratbench.refactor import Bench, Task
+from stratbench.refactor.previewed import replacement
 from stratbench.refactor.runs import budget
 from stratbench.refactor.written import Written, rules_of, with_written
 from stratbench.terms import deep, exchange
@@ -42,7 +43,7 @@ def previews(bench, task, source, names):
         words = ran.lines[at].split()
         if words[0] != b"changes":
             raise ValueError(f"{ran.lines[at]!r} {ran.said}")
-        yield dict(map(runs._replacement, ran.lines[at + 1 : at + 1 + int(words[1])]))
+        yield dict(map(replacement, ran.lines[at + 1 : at + 1 + int(words[1])]))
         at += 1 + int(words[1])
 
 

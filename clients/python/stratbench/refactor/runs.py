@@ -13,9 +13,10 @@ from typing import Final, NamedTuple, Protocol
 from .. import installed
 from ..diagnostics import Diagnostic, others, parsed, told
 from ..places import Command, Text
-from ..terms import Shown, Term, deep, exchange, height, items, read, shown
+from ..terms import Shown, Term, deep, exchange, height, items, shown
 from . import task as bounds
 from .needs import Needs
+from .previewed import replacement
 from .task import MOST_LEVELS, MOST_STEPS, Task
 from .traces import Traces
 
@@ -94,7 +95,7 @@ def transformed(trees: Sequence[Tree], task: Task) -> list[Result]:
         bench = Bench(room, task)
         refused: dict[int, Refused] = {}
         try:
-            for at, one in zip(given, bench.previews([trees[at].shown for at in given])):
+            for at, one in zip(given, bench.previews([trees[at] for at in given])):
                 if isinstance(one, Refused):
                     refused[at] = one
                 else:
@@ -162,25 +163,25 @@ class Bench:
             said = said.replace(f"{self.room}/{at}.str", name)
         return Ran(ran.returncode, ran.stdout.split(b"\n"), said)
 
-    def previews(self, trees: Sequence[Term | Shown], strategies: Sequence[str] = ()) -> list[dict[tuple[int, ...], Term] | Refused]:
+    def previews(self, trees: Sequence[Term | Shown | Tree], strategies: Sequence[str] = ()) -> list[dict[tuple[int, ...], Term] | Refused]:
         """Previews the task's strategy on these trees; or one for each tree."""
         if not trees:
             return []
-        texts = [shown(it) if isinstance(it, Term) else it for it in trees]
+        texts = [it if isinstance(it, Shown) else shown(it) if isinstance(it, Term) else it.shown for it in trees]
         commands = self.commands(texts, strategies)
         ran = self.run(_script(commands), texts, ["--profile", "--explain=json"] if self.task.profile else [])
         if ran.status not in (0, 1) or len(ran.lines) <= len(texts):
             raise _Ended(re.sub(r"^stratbench: (/\S+: )?", "", self.told(ran.said)) or f"{self.program} ended with status {ran.status}")
         found: list[dict[tuple[int, ...], Term] | Refused] = []
         at = 0
-        for tree in texts:
+        for tree, text in zip(trees, texts):
             answer = ran.lines[at].decode(errors="replace")
             at += 1
             if answer.startswith("refused "):
-                found.append(Refused(answer, tree))
+                found.append(Refused(answer, text))
                 continue
             count = int(answer.split()[1])
-            found.append(dict(_replacement(line) for line in ran.lines[at : at + count]))
+            found.append(_replacements(ran.lines[at : at + count], tree, text))
             at += count
         if self.task.profile:
             said = {it.line: it.steps for it in parsed(ran.said) if it.severity == "profile"}
@@ -247,13 +248,12 @@ class Ran(NamedTuple):
     said: str
 
 
-# A line of a preview: the path, and the term that would be there.
-def _replacement(line: bytes) -> tuple[tuple[int, ...], Term]:
-    at, _, rest = line.partition(b" ")
-    # outside strings, a printed term has no blanks
-    end = next(it.start() for it in re.finditer(rb'"(?:\\.|[^"\\])*"| ', rest) if it.group() == b" ")
-    path = tuple(int(step) for step in at.decode().split("/") if step)
-    return path, read(rest[end + len(b" => ") :])
+# What comes at which places of a tree.
+def _replacements(lines: Sequence[bytes], tree: Term | Shown | Tree, text: Shown) -> dict[tuple[int, ...], Term]:
+    if isinstance(tree, (Term, Shown)):
+        return dict(map(replacement, lines))
+    whole: Tree = tree
+    return dict(replacement(it, len(text.text), lambda: whole.term) for it in lines)
 
 
 # What was said of refused commands, by the lines of the script.
