@@ -7,6 +7,7 @@ import shutil
 import subprocess
 import sys
 import tempfile
+import time
 
 DEBIAN = "/usr/bin/python3"
 
@@ -26,15 +27,24 @@ def interpreter(module, package):
     return python or found(module), why
 
 
-def installed(package):
-    """What kept a package of Debian from being installed, or nothing."""
+def installed(*names):
+    """What kept packages of Debian from being installed, or nothing."""
     if os.geteuid() != 0 or shutil.which("apt-get") is None:
         return "only root installs it, by apt-get"
-    # the groups of tests run side by side
+    # others who ask for packages here wait for one another
     with open(f"{tempfile.gettempdir()}/stratbench-tests.lock", "w") as lock:
         fcntl.flock(lock, fcntl.LOCK_EX)
-        for command in (["apt-get", "update"], ["apt-get", "install", "--yes", "--no-install-recommends", package]):
-            ran = subprocess.run(command, env={**os.environ, "DEBIAN_FRONTEND": "noninteractive"}, capture_output=True, text=True)
-            if ran.returncode != 0:
-                return ran.stderr
-    return ""
+        install = ["install", "--yes", "--no-install-recommends", *names]
+        return _done(install) and (_done(["update"]) or _done(install))
+
+
+# What is wrong with a run of apt-get, if anything is. Where somebody else installs, it waits until that is done.
+def _done(words):
+    command = ["apt-get", "-o", "DPkg::Lock::Timeout=600", "-o", "Acquire::Retries=3", *words]
+    until = time.monotonic() + 600
+    while True:
+        ran = subprocess.run(command, env={**os.environ, "LC_ALL": "C", "DEBIAN_FRONTEND": "noninteractive"}, capture_output=True, text=True)
+        # apt-get itself waits for the lock of the packages alone, and not for that of the lists
+        if "Could not get lock" not in ran.stderr or time.monotonic() > until:
+            return ran.stderr if ran.returncode else ""
+        time.sleep(1)
