@@ -9,6 +9,8 @@ import subprocess
 import termios
 import time
 
+# How many seconds are waited for what has to come: as many as no machine stalls, however busy it is.
+MOST = 300
 CONTROL = re.compile(r"\x1b(?:\[[0-9;?]*[a-zA-Z]|[=>78]|\][^\x07]*\x07)|[\x00\x07\x08]")
 
 
@@ -48,13 +50,38 @@ class Terminal:
 
     def complete(self):
         """Types Tab, and waits until what comes of it is shown: keys that come before aren't what a person would type."""
-        before = len(self.seen)
+        self.settle()
+        before, resting, end = len(self.seen), self._resting(), time.monotonic() + MOST
         self.type("\t")
-        # a quick shell has answered by now
-        if len(self.seen) == before:
-            self._take(10)
-        while self._take(0.1):
-            pass
+        # something is shown, or the shell took it and shows nothing
+        while len(self.seen) == before and self._resting() in (None, resting) and self.ran.poll() is None and time.monotonic() < end:
+            self._take(0.02)
+        self.settle()
+
+    def settle(self):
+        """Waits until the shell shows nothing more, and waits for keys itself."""
+        resting, end = None, time.monotonic() + MOST
+        while self.ran.poll() is None and time.monotonic() < end:
+            shows = self._take(0.02)
+            before, resting = resting, None if shows else self._resting()
+            if resting is not None and resting == before:
+                return
+
+    def _resting(self):
+        """How often each thread of the shell and of its program has given up its processor, where all of them sleep or are stopped."""
+        counts = []
+        try:
+            with open(f"/proc/{self.ran.pid}/task/{self.ran.pid}/children") as it:
+                processes = [self.ran.pid, *it.read().split()]
+            for thread in (f"/proc/{it}/task/{one}" for it in processes for one in os.listdir(f"/proc/{it}/task")):
+                with open(f"{thread}/status") as it:
+                    status = it.read()
+                if not re.search(r"^State:\s+[ST]", status, re.MULTILINE):
+                    return None
+                counts.append((thread, *re.findall(r"ctxt_switches:\s+(\d+)", status)))
+        except OSError:
+            return None
+        return counts
 
     def paste(self, text):
         """Pastes a text, with the signs for it where they are asked for."""
@@ -71,7 +98,7 @@ class Terminal:
         self.seen += more.decode(errors="replace")
         return bool(more)
 
-    def see(self, wanted, seconds=60):
+    def see(self, wanted, seconds=MOST):
         """Waits until the screen shows what matches, after what was seen last."""
         end = time.monotonic() + seconds
         while True:
@@ -94,10 +121,10 @@ class Terminal:
         """Types Ctrl-C until what is wanted is seen. Python misses one that comes while it shows the key before, and so would a person
         type it again."""
         for _ in range(10):
-            time.sleep(0.1)
+            self.settle()
             self.type("\x03")
             try:
-                self.see(wanted, seconds=3)
+                self.see(wanted, seconds=15)
                 return
             except Unlike:
                 pass
@@ -114,11 +141,12 @@ class Terminal:
     def end(self):
         self.at = len(self.seen)
         self.type("\x04")
-        for _ in range(1_200):
-            if self.ran.poll() is not None:
-                break
-            self._take(0.05)
-        else:
+        end = time.monotonic() + MOST
+        while self.ran.poll() is None and time.monotonic() < end:
+            # the terminal is closed before the process has ended
+            if not self._take(0.05):
+                time.sleep(0.01)
+        if self.ran.poll() is None:
             self.ran.kill()
         os.close(self.file)
         return self.ran.wait()

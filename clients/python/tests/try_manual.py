@@ -15,7 +15,7 @@ from packages import found as python_with
 from stratbench import languages
 from stratbench.languages.language import Missing
 from stratbench.shell.commands import OWN
-from terminals import CONTROL, Terminal, Unlike, surroundings
+from terminals import CONTROL, MOST, Terminal, Unlike, surroundings
 
 
 def tests(top, everything):
@@ -111,7 +111,7 @@ def on_screen(top, python, sessions, files):
 
 def ready(tmux, before):
     """The screen, once it has more than before and waits for another line."""
-    end = time.monotonic() + 10
+    end = time.monotonic() + MOST
     while time.monotonic() < end:
         screen = bare(subprocess.run([*tmux, "capture-pane", "-p"], capture_output=True, text=True).stdout)
         if screen.count("\n") > before.count("\n") and screen.endswith(("\n>", "\n.")):
