@@ -230,12 +230,24 @@ def ends():
     yield "the status after a refusal", "" if bench.close() == 1 else f"{bench.close()}"
 
 
+def interrupted(process):
+    """Has an alarm come while the next answer of a process is waited for, and not before."""
+    line = process.line
+
+    def alarmed(until):
+        signal.setitimer(signal.ITIMER_REAL, 0.1)
+        return line(until)
+
+    process.line = alarmed
+
+
 def stops():
-    bench = Stratbench(seconds=20)
+    # so many steps that no program takes them before a client that stalls looks for the answer
+    bench = Stratbench(seconds=300, max_steps=4_000_000_000)
     bench.tree("t", "a")
     bench.seconds = 0.001
     try:
-        bench.apply("t", "rec x(x)", within=1_000_000)
+        bench.apply("t", "rec x(x)", within=4_000_000_000)
         yield "a time limit", "there was none"
     except TimeoutError as error:
         yield "a time limit", "" if str(error) == "no answer after 0.001 seconds" and bench.close() == -signal.SIGKILL else f"{error}"
@@ -249,7 +261,8 @@ def stops():
             pid = bench._process._ran.pid
             os.kill(pid, signal.SIGSTOP if stop else signal.SIGKILL)
             before = signal.signal(signal.SIGALRM, signal.default_int_handler)
-            signal.setitimer(signal.ITIMER_REAL, 0.1 if stop else 0)
+            if stop:
+                interrupted(bench._process)
             try:
                 bench.trees()
                 fault = "it went on"
