@@ -8,9 +8,9 @@ local client = vim.lsp.start_client({
   flags = { debounce_text_changes = 0 },
 })
 
--- Waits until something holds: half a minute at most.
+-- Waits until something holds, as long as no machine stalls.
 local function until_it(holds)
-  return vim.wait(30000, holds, 1)
+  return vim.wait(300000, holds, 1)
 end
 
 -- Whether something is told of these lines.
@@ -33,7 +33,7 @@ for plan in io.lines(os.getenv("PLAN")) do
     return it ~= nil and it.initialized
   end)
   -- the module was looked at once something is answered
-  vim.lsp.buf_request_sync(0, "textDocument/foldingRange", { textDocument = vim.lsp.util.make_text_document_params(0) }, 30000)
+  vim.lsp.buf_request_sync(0, "textDocument/foldingRange", { textDocument = vim.lsp.util.make_text_document_params(0) }, 300000)
   local begun = vim.loop.hrtime()
   vim.api.nvim_buf_set_text(0, line, column, line, column, { text })
   local was_told = until_it(function()

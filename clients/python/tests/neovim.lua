@@ -9,9 +9,9 @@ vim.cmd("edit " .. os.getenv("FILE"))
 local client = vim.lsp.start_client({ cmd = { os.getenv("PYTHON"), "-m", "stratbench.server" }, root_dir = vim.fn.getcwd() })
 vim.lsp.buf_attach_client(0, client)
 
--- Waits until something holds: half a minute at most.
+-- Waits until something holds, as long as no machine stalls.
 local function until_it(holds)
-  return vim.wait(30000, holds, 2)
+  return vim.wait(300000, holds, 2)
 end
 
 until_it(function()
@@ -35,7 +35,7 @@ end)))
 local function asked(method, column)
   local position = { line = line - 1, character = column }
   local given = { textDocument = vim.lsp.util.make_text_document_params(0), position = position }
-  return vim.lsp.buf_request_sync(0, method, given, 30000)[client].result
+  return vim.lsp.buf_request_sync(0, method, given, 300000)[client].result
 end
 for _, it in ipairs(asked("textDocument/completion", 13)) do
   if it.filterText == "twice" then

@@ -382,7 +382,7 @@ def through_neovim():
             time.sleep(0.05)
         running = [it for it in glob.glob("/proc/[0-9]*/cwd") if real(it) == os.path.realpath(room)]
         editor.kill()
-        editor.communicate(timeout=60)
+        editor.communicate(timeout=300)
         left = left_in(room)
         # Neovim, the server and the program ran
         few = "" if len(running) == 3 and contents(f"{room}/out") == "true" else f"{len(running)} ran"
@@ -721,7 +721,7 @@ def ends():
             editor.note("exit")
         else:
             editor.server.stdin.close()
-        status = editor.server.wait(timeout=60)
+        status = editor.server.wait(timeout=300)
         yield f"{how}, with no shutdown before", "" if status == 1 else f"status {status}"
         if how == "exit":
             editor.server.stdin.close()
@@ -729,14 +729,14 @@ def ends():
     editor = Editor(stderr=subprocess.PIPE)
     editor.server.stdout.close()
     editor.open("/none/m.str", "strategies f = g")
-    _, said = editor.server.communicate(timeout=60)
+    _, said = editor.server.communicate(timeout=300)
     yield "nobody reads the answer", "" if editor.server.returncode == 1 and not said else f"{editor.server.returncode} {said}"
     with tempfile.TemporaryDirectory() as room:
         editor = Editor(cwd=room)
         editor.open(os.path.join(room, "m.str"), "strategies f = g")
         editor.diagnostics(os.path.join(room, "m.str"))
         editor.server.kill()
-        editor.server.communicate(timeout=60)
+        editor.server.communicate(timeout=300)
         yield "the program ends with the server", "\n".join(left_in(room))
 
 
