@@ -138,7 +138,7 @@ def talks(package):
             ran.stdin.flush()
             want(ran.stdout.readline(), wanted)
         ran.stdin.close()
-        want(ran.wait(60), 1)
+        want(ran.wait(SECONDS), 1)
 
 
 def lacks(package):
