@@ -5,8 +5,9 @@ Run by hand at the top of the repository, after the program was built (README ha
     python3 tools/measure/javascript.py [PROGRAM]
 
 It needs node with Debian's node-babel7 and node-recast. The files are two hundred of Debian's packages for node, and the rules those that
-`clients/python/tests/peer.js` has for recast. Times are those of the processor, of a command with all its processes, start included; each is
-the least of three. For recast they are those of a process that parses, applies the rule and prints.
+`clients/python/tests/peer.js` has for recast. Times are those of the processor, of a command with all its processes, start included. For
+recast they are those of a process that parses, applies the rule and prints. Both are measured by turns, so that a machine that is busy for a
+while is busy for both, and each time is the least of three.
 """
 
 import os
@@ -34,13 +35,10 @@ for (const name of fs.readFileSync(names, 'utf8').split('\\\\n')) {
 
 def spent(words, environment):
     """The seconds of the processor that a command takes, and what it says."""
-    least, said = float("inf"), ""
-    for _ in range(TIMES):
-        before = resource.getrusage(resource.RUSAGE_CHILDREN)
-        said = subprocess.run(words, env={**os.environ, **environment}, capture_output=True).stderr.decode()
-        after = resource.getrusage(resource.RUSAGE_CHILDREN)
-        least = min(least, after.ru_utime + after.ru_stime - before.ru_utime - before.ru_stime)
-    return least, said
+    before = resource.getrusage(resource.RUSAGE_CHILDREN)
+    said = subprocess.run(words, env={**os.environ, **environment}, capture_output=True).stderr.decode()
+    after = resource.getrusage(resource.RUSAGE_CHILDREN)
+    return after.ru_utime + after.ru_stime - before.ru_utime - before.ru_stime, said
 
 
 def main():
@@ -56,11 +54,15 @@ def main():
         for rule in RULES:
             strategy = try_javascript.RULES[rule]
             words = [sys.executable, "-m", "stratbench.refactor", "--modules", f"{TOP}/strategies", "--do", strategy, *(name for name, _ in work)]
-            ours, said = spent(words, {"PYTHONPATH": f"{TOP}/clients/python", "STRATBENCH": program})
             peer = ["node", "-e", RECAST, f"{TOP}/clients/python/tests/peer.js", f"{room}/names", rule]
-            theirs, _ = spent(peer, {"NODE_PATH": "/usr/share/nodejs:/usr/lib/nodejs"})
+            ours = theirs = float("inf")
+            for _ in range(TIMES):
+                took, said = spent(words, {"PYTHONPATH": f"{TOP}/clients/python", "STRATBENCH": program})
+                ours = min(ours, took)
+                theirs = min(theirs, spent(peer, {"NODE_PATH": "/usr/share/nodejs:/usr/lib/nodejs"})[0])
             changed = said.strip().split("\n")[-1].split(" of ")[0]
-            print(f"| `{strategy}` | {changed} | {theirs:.2f} | {ours:.2f} | {ours / theirs:.2f} |", flush=True)
+            shown = strategy.replace("|", "\\|")
+            print(f"| `{shown}` | {changed} | {theirs:.2f} | {ours:.2f} | {ours / theirs:.2f} |", flush=True)
 
 
 if __name__ == "__main__":
