@@ -171,13 +171,14 @@ def prove(made):
 
 
 # What a call of an export is handed, by the type of its parameter.
-HANDED = {"Global": "rt.alloc()", "*mut u8": "handle", "&[u8]": "b\"t\"", "&mut [u8]": "&mut room", "u32": "1"}
+HANDED = {"Global": "rt.alloc()", "*mut u8": "handle", "&[u8]": "b\"t\"", "&mut [u8]": "&mut room", "&mut [usize]": "&mut ends", "u32": "1"}
 # A program that `rt try` compiles, which calls each export, and so has each. The first session ends at once, and the last with the program.
 CALLS = """
 fn main(rt: HostRuntime) {
     let mut bench = make(rt.alloc());
     let handle = (&raw mut bench) as *mut u8;
     let mut room = [0u8; 64];
+    let mut ends = [0usize; 8];
     unsafe {
         stratbench_drop(handle);
         %s

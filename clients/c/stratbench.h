@@ -96,6 +96,10 @@ uint32_t stratbench_show(stratbench_session *handle, const uint8_t *name, size_t
  * returns their length. They stay until the next script, load or tree that is shown. */
 size_t stratbench_copy(stratbench_session *handle, uint8_t *out, size_t room);
 
+/* Copies where the answers of the last script end to the start of `out` if they fit into `room` numbers, and returns how many answers there
+ * are: the first is the bytes up to out[0], the next those from there up to out[1]. A load, and a tree that is shown, has none. */
+size_t stratbench_ends(stratbench_session *handle, size_t *out, size_t room);
+
 /* Says whether the calls that follow are to be explained: not if `explains` is 0, and not in a new session; as JSON if it is 2,
  * else as text. */
 uint32_t stratbench_explain(stratbench_session *handle, uint32_t explains);

@@ -139,6 +139,35 @@ static void limits(void) {
     end(handle);
 }
 
+/* Whether the answers of the last script end at these places. They are copied into a block of just their size. */
+static int ends_are(stratbench_session *handle, size_t count, const size_t *wanted) {
+    size_t nothing;
+    if (stratbench_ends(handle, &nothing, 0) != count) return 0;
+    size_t *out = __real_malloc((count + 1) * sizeof *out);
+    int same = stratbench_ends(handle, out, count) == count && memcmp(out, wanted, count * sizeof *out) == 0;
+    free(out);
+    return same;
+}
+
+static void ends(void) {
+    stratbench_session *handle = begin();
+    size_t out[4] = {7, 7, 7, 7};
+    CHECK(ends_are(handle, 0, out));
+    CHECK(run(handle, "tree t f(1)\nshow t\nshow u\nmodule m strategies f = id\ndump") == STRATBENCH_REFUSED);
+    CHECK(answers_are(handle, "ok\nf(1)\nrefused 5 notree\nok\ntree t f(1)\nbegin\nmodule m strategies f = id\ncommit\n"));
+    CHECK(ends_are(handle, 5, (const size_t[]){3, 8, 25, 28, 80}));
+    CHECK(stratbench_ends(handle, out, 4) == 5 && out[0] == 7 && out[3] == 7);
+    CHECK(run(handle, "") == STRATBENCH_ACCEPTED && ends_are(handle, 0, out));
+    CHECK(run(handle, "show t") == STRATBENCH_ACCEPTED && ends_are(handle, 1, (const size_t[]){5}));
+    CHECK(stratbench_ends(handle, out, 4) == 1 && out[0] == 5 && out[1] == 7);
+    CHECK(stratbench_run(handle, (const uint8_t *)"undo", 4, 0) == STRATBENCH_NO_BUDGET && ends_are(handle, 1, (const size_t[]){5}));
+    CHECK(stratbench_explain(handle, 1) == STRATBENCH_ACCEPTED && ends_are(handle, 1, (const size_t[]){5}));
+    CHECK(stratbench_show(handle, (const uint8_t *)"u", 1) == STRATBENCH_REFUSED && ends_are(handle, 0, out));
+    CHECK(run(handle, "show t") == STRATBENCH_ACCEPTED && ends_are(handle, 1, (const size_t[]){5}));
+    CHECK(stratbench_library(handle) == STRATBENCH_ACCEPTED && ends_are(handle, 0, out));
+    end(handle);
+}
+
 static void framings(void) {
     stratbench_session *handle = begin();
     const uint8_t script[] = "  tree t f(1,\n  2)\nshow t\n";
@@ -298,6 +327,7 @@ static uint32_t run_short_of_memory(stratbench_session *handle, int elements) {
         } else CHECK((size_t)(line - at) == shown && at[0] == '[' && line[-1] == ']');
         at = line + 1;
     }
+    CHECK(stratbench_ends(handle, &shown, 0) == (status == STRATBENCH_NO_MEMORY ? 1 : (size_t)answered));
     if (status == STRATBENCH_NO_MEMORY) CHECK(answers_are(handle, "ok\n"));
     else if (status == STRATBENCH_CUT) CHECK(!*at && answered < 2 * COMMANDS);
     else CHECK(!*at && answered == 2 * COMMANDS && status == (refused ? STRATBENCH_REFUSED : STRATBENCH_ACCEPTED));
@@ -420,7 +450,7 @@ int main(void) {
         const char *name;
         void (*trial)(void);
     } trials[] = {
-        {"statuses", statuses}, {"budgets", budgets}, {"limits", limits}, {"framings", framings}, {"copies", copies}, {"loads", loads},
+        {"statuses", statuses}, {"budgets", budgets}, {"limits", limits}, {"ends", ends}, {"framings", framings}, {"copies", copies}, {"loads", loads},
         {"long tree", long_tree}, {"trees shown", trees_shown}, {"explanations", explanations}, {"many calls", many_calls},
         {"side by side", side_by_side}, {"refused growths", refused_growths}, {"limited blocks", limited_blocks},
         {"loads without memory", loads_without_memory}, {"limits without memory", limits_without_memory}, {"no session", no_session}, {"what the library says of itself", about},

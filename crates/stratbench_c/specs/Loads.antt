@@ -37,7 +37,8 @@ Loaded Comes NoMemory old new = ⊥
 
 -- the same at a handle, where there may be no session
 abbrev pub LoadedAt : Loading → List ℕ → List ℕ → Status → Option Work → Option Work → Type 0
-LoadedAt Loads name text status (Some old) (Some new) = Loaded (LoadsNamed Loads name text old.session) status old new
+LoadedAt Loads name text status (Some old) (Some new) =
+    Loaded (LoadsNamed Loads name text old.session) status old new × (new.ends.items ≡ [])
 LoadedAt Loads name text status None None = status ≡ NoMemory
 LoadedAt Loads name text status (Some old) None = ⊥
 LoadedAt Loads name text status None (Some new) = ⊥
@@ -72,7 +73,8 @@ Shown Tells NoMemory answer = ⊥
 
 -- the same at a handle, where there may be no session
 abbrev pub ShownAt : List ℕ → Status → Option Work → Option Work → Type 0
-ShownAt name status (Some old) (Some new) = (new.session ≡ old.session) × Shown (Shows name old.session) status new.answers
+ShownAt name status (Some old) (Some new) =
+    (new.session ≡ old.session) × Shown (Shows name old.session) status new.answers × (new.ends.items ≡ [])
 ShownAt name status None None = status ≡ NoMemory
 ShownAt name status (Some old) None = ⊥
 ShownAt name status None (Some new) = ⊥

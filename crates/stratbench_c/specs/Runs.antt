@@ -1,5 +1,5 @@
 -- What a script does to what lies at a handle.
-use Rattle.std.specs.Prelude.{◌≡◌, ◌<◌, ◌≤◌, ◌⊎◌, ℕ, Bool, false, List, [], ◌∷◌, ◌++◌, Some, None, IfSome, length, drop}
+use Rattle.std.specs.Prelude.{◌≡◌, ◌<◌, ◌≤◌, ◌⊎◌, ℕ, ◌+◌, Bool, false, List, [], ◌∷◌, ◌++◌, Some, None, IfSome, length, drop, count_by, is_err}
 use Rattle.std.specs.declared.option.Option.{Option}
 use Rattle.prim_extended.specs.Extended.{extended}
 use Rattle.prim_extended.specs.ExtendedTable.{extended_signatures}
@@ -10,9 +10,9 @@ use Rattle.session_history.specs.declared.limits.Limits.{Limits}
 use Rattle.session_history.specs.History.{History, empty_within, default_limits}
 use Rattle.script_text.specs.declared.framing.Framing.{Framing}
 use Rattle.script_text.specs.Handed.{Handed, handed}
-use Rattle.script_text.specs.Replies.{Replying}
+use Rattle.script_text.specs.Replies.{Reply, Replying, written}
 use Rattle.script_text.specs.Answer.{Answered, ReplyInRun}
-use Rattle.script_text.specs.Run.{Completes}
+use Rattle.script_text.specs.Run.{Replied, out}
 use Rattle.stratbench_c.specs.declared.bench.Work.{Work}
 use Rattle.stratbench_c.specs.declared.status.Status.{Status}
 use Rattle.stratbench_c.specs.declared.status.Status.TheVariants.{Accepted, Refused, Cut, NoMemory}
@@ -25,35 +25,47 @@ pub record Adds (Rule : Replying) (command : Handed) (h g : History) (old new : 
   pub answered : Answered Rule command h g answer accepted
   pub added : new ≡ old ++ answer
 
--- The commands are answered, this many of them by a refusal, and these are all answers, one after
--- the other.
-pub record AnswersAll (Rule : Replying) (commands : List Handed) (h g : History) (answers : List ℕ) (refused : ℕ) : Type 0 where
-  pub accepted : ℕ
-  pub completes : Completes false Rule commands h g (Some []) (Some answers) accepted refused
+-- where the answers end that are written to these replies, one after the other from this place on
+abbrev pub ends_from : ℕ → List Reply → List ℕ
+ends_from at [] = []
+ends_from at (reply ∷ replies) = let end = at + length (written reply) in end ∷ ends_from end replies
 
--- The first of the commands are answered, and these are all answers to them. Of the others there is
--- at least one, and none is run.
-pub record AnswersSome (Rule : Replying) (commands : List Handed) (h g : History) (answers : List ℕ) : Type 0 where
+-- The commands are answered, this many of them by a refusal. These are all answers, one after the
+-- other, and where each of them ends.
+pub record AnswersAll (Rule : Replying) (commands : List Handed) (h g : History) (answers ends : List ℕ) (refused : ℕ) : Type 0 where
+  pub flags : List Bool
+  pub replies : List Reply
+  pub replied : Replied false Rule commands flags h replies g
+  pub written : answers ≡ out replies
+  pub ended : ends ≡ ends_from 0 replies
+  pub counted : refused ≡ count_by is_err replies
+
+-- The first of the commands are answered, and these are all answers to them and their ends. Of the
+-- others there is at least one, and none is run.
+pub record AnswersSome (Rule : Replying) (commands : List Handed) (h g : History) (answers ends : List ℕ) : Type 0 where
   pub first : List Handed
   pub others : List Handed
   pub all : commands ≡ first ++ others
   pub some : 0 < length others
   pub refused : ℕ
-  pub answered : AnswersAll Rule first h g answers refused
+  pub answered : AnswersAll Rule first h g answers ends refused
 
 -- What a script does to a session and its answers, by its status. The budget is that of commands that
 -- name none.
-abbrev pub Ran : Framing → ℕ → List ℕ → Status → History → List ℕ → History → List ℕ → Type 0
-Ran framing steps script Accepted h old g new = AnswersAll (ReplyInRun extended steps) (handed framing script) h g new 0
-Ran framing steps script Refused h old g new =
-    (refused : ℕ) × (0 < refused) × AnswersAll (ReplyInRun extended steps) (handed framing script) h g new refused
-Ran framing steps script Cut h old g new = AnswersSome (ReplyInRun extended steps) (handed framing script) h g new
-Ran framing steps script NoMemory h old g new = (g ≡ h) × (new ≡ old)
+abbrev pub Ran : Framing → ℕ → List ℕ → Status → Work → Work → Type 0
+Ran framing steps script Accepted old new =
+    AnswersAll (ReplyInRun extended steps) (handed framing script) old.session new.session new.answers new.ends.items 0
+Ran framing steps script Refused old new =
+    (refused : ℕ) × (0 < refused)
+    × AnswersAll (ReplyInRun extended steps) (handed framing script) old.session new.session new.answers new.ends.items refused
+Ran framing steps script Cut old new =
+    AnswersSome (ReplyInRun extended steps) (handed framing script) old.session new.session new.answers new.ends.items
+Ran framing steps script NoMemory old new =
+    (new.session ≡ old.session) × (new.answers ≡ old.answers) × (new.ends ≡ old.ends)
 
 -- the same at a handle, where there may be no session
 abbrev pub RanAt : Framing → ℕ → List ℕ → Status → Option Work → Option Work → Type 0
-RanAt framing steps script status (Some old) (Some new) =
-    Ran framing steps script status old.session old.answers new.session new.answers
+RanAt framing steps script status (Some old) (Some new) = Ran framing steps script status old new
 RanAt framing steps script status None None = status ≡ NoMemory
 RanAt framing steps script status (Some old) None = ⊥
 RanAt framing steps script status None (Some new) = ⊥
@@ -71,7 +83,8 @@ TellsRun framing steps script code old new =
 
 -- a session without trees and modules that has these limits, and nothing was answered or said
 abbrev pub IsNewWithin : Limits → Work → Type 0
-IsNewWithin limits it = (it.session ≡ empty_within limits extended_signatures) × (it.answers ≡ []) × (it.hints ≡ [])
+IsNewWithin limits it =
+    (it.session ≡ empty_within limits extended_signatures) × (it.answers ≡ []) × (it.ends.items ≡ []) × (it.hints ≡ [])
 
 -- what lies at a new handle
 abbrev pub IsNew : Option Work → Type 0
@@ -102,6 +115,11 @@ abbrev pub answers_of : Option Work → List ℕ
 answers_of None = []
 answers_of (Some work) = work.answers
 
+-- where the answers of the last script end
+abbrev pub ends_of : Option Work → List ℕ
+ends_of None = []
+ends_of (Some work) = work.ends.items
+
 -- what was said of the last call
 abbrev pub hints_of : Option Work → List ℕ
 hints_of None = []
@@ -110,7 +128,7 @@ hints_of (Some work) = work.hints
 -- The session and its answers stay.
 abbrev pub ExplainedAt : Status → Option Work → Option Work → Type 0
 ExplainedAt status (Some old) (Some new) =
-    (status ≡ Accepted) × (new.session ≡ old.session) × (new.answers ≡ old.answers)
+    (status ≡ Accepted) × (new.session ≡ old.session) × (new.answers ≡ old.answers) × (new.ends ≡ old.ends)
 ExplainedAt status None None = status ≡ NoMemory
 ExplainedAt status (Some old) None = ⊥
 ExplainedAt status None (Some new) = ⊥
@@ -118,8 +136,8 @@ ExplainedAt status None (Some new) = ⊥
 abbrev pub TellsExplained : ℕ → Option Work → Option Work → Type 0
 TellsExplained code old new = (status : Status) × (code ≡ code_of status) × ExplainedAt status old new
 
--- This is the length of the text; it stands at the start of `out` if there is room for it, and else
--- `out` stays as it was.
+-- This is the length of what is copied; it stands at the start of `out` if there is room for it, and
+-- else `out` stays as it was.
 abbrev pub AreCopied : List ℕ → List ℕ → List ℕ → ℕ → Type 0
 AreCopied text old new result =
     (result ≡ length text)

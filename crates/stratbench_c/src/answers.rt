@@ -1,6 +1,6 @@
 //! The answers of a call, in a buffer whose room stays for the next call.
 
-ghost use Rattle.std.specs.Prelude.{◌≡◌, ◌++◌, [], IfOk, OnOk, OnErr, IfErr, false, if◌then◌else◌};
+ghost use Rattle.std.specs.Prelude.{◌≡◌, ◌++◌, [], length, IfOk, OnOk, OnErr, IfErr, false, if◌then◌else◌};
 ghost use Rattle.script_text.specs.Answer.{ReplyInRun, TellsRefusal};
 ghost use Rattle.script_text.specs.FedRight.{handed_out};
 ghost use Rattle.stratbench_c.specs.Loads.{Shows, Shown};
@@ -112,6 +112,13 @@ impl Answers {
                 Status::Refused
             }
         }
+    }
+
+    /// The number of bytes of all answers.
+    pub fn len(&self) -> usize
+        ensures { result ≡ length self.now }
+    {
+        self.others.len() + following(&self.last, self.follows).len()
     }
 
     /// Copies all answers to the start of `out` if there is room for them, and returns their

@@ -1,12 +1,12 @@
 //! What lies at a handle.
 
-ghost use Rattle.std.specs.Prelude.{◌≡◌, ◌≤◌, [], IfErr, IfOk, OnErr, OnOk};
+ghost use Rattle.std.specs.Prelude.{◌≡◌, ◌≤◌, ◌++◌, ◌∷◌, [], length, IfErr, IfOk, OnErr, OnOk};
 ghost use Rattle.prim_extended.specs.Extended.{extended};
 ghost use Rattle.term_core.specs.declared.TheConstants.{MAX_ROOM};
 ghost use Rattle.script_text.specs.Answer.{ReplyInRun, TellsRefusal};
 ghost use Rattle.script_text.specs.FedRight.{handed_out};
 ghost use Rattle.script_text.specs.declared.framing.Framing.TheVariants.{Continued, Lines};
-ghost use Rattle.stratbench_c.specs.Runs.{Adds, AreCopied, ExplainedAt, IsNew, IsNewWithin, LimitedAt, Ran, RanAt, TellsExplained, TellsLimited, TellsRun, answers_of, hints_of, most_steps as most_steps_of};
+ghost use Rattle.stratbench_c.specs.Runs.{Adds, AreCopied, ExplainedAt, IsNew, IsNewWithin, LimitedAt, Ran, RanAt, TellsExplained, TellsLimited, TellsRun, answers_of, ends_of, hints_of, most_steps as most_steps_of};
 
 use crate::answers::Answers;
 use crate::hints::Hints;
@@ -27,11 +27,13 @@ pub struct Bench {
     pub work: Option<Work>,
 }
 
-/// A session with the extended primitives, the answers of the last call, and what was said of it.
+/// A session with the extended primitives, the answers of the last call, and what was said of it. Of
+/// a script there is also where each of its answers ends.
 #[derive(Drop)]
 pub struct Work {
     pub session: Session<Extended>,
     pub answers: Answers,
+    pub ends: Vec<usize>,
     pub hints: Hints,
 }
 
@@ -46,6 +48,7 @@ impl Work {
         Ok(Work {
             session: Session::with_limits(alloc, Primitives::new(primitives), limits),
             answers,
+            ends: Vec::new(alloc),
             hints: Hints::new(alloc),
         })
     }
@@ -53,14 +56,14 @@ impl Work {
     /// Answers the commands of the script, in place of the answers of the last one. The last
     /// command ends with the script.
     pub fn run(&mut self, alloc: Global, script: &[u8], framing: Framing, steps: u32) -> Status
-        ensures { Ran framing steps script.now result
-            self.old.session self.old.answers self.new.session self.new.answers }
+        ensures { Ran framing steps script.now result self.old self.new }
     {
         self.hints.begin(framing, steps);
         let Ok(mut splitter) = Splitter::new(alloc, framing) else {
             return Status::NoMemory;
         };
         self.answers.clear();
+        self.ends.clear();
         let mut accepted = true;
         let mut rest = script;
         while let Fed::Command(taken) = splitter.feed(rest) {
@@ -85,11 +88,18 @@ impl Work {
     fn answer(&mut self, alloc: Global, command: Piece<'_>, steps: u32) -> Result<bool, NoMemory>
         ensures ok { IfOk result (λ accepted. Adds (ReplyInRun extended steps) (handed_out command.entry)
             self.old.session self.new.session self.old.answers self.new.answers accepted) }
+        ensures ends { OnOk result (self.new.ends.items ≡ self.old.ends.items ++ length self.new.answers ∷ []) }
         ensures answers { OnErr result (self.new.answers ≡ self.old.answers) }
+        ensures same_ends { OnErr result (self.new.ends.items ≡ self.old.ends.items) }
         ensures session { OnErr result (self.new.session ≡ self.old.session) }
     {
-        self.answers
-            .add(alloc, &mut self.session, command, steps, &mut self.hints)
+        // the room comes first, since the answer isn't taken back
+        self.ends.reserve(1)?;
+        let accepted = self
+            .answers
+            .add(alloc, &mut self.session, command, steps, &mut self.hints)?;
+        self.ends.push_reserved(self.answers.len());
+        Ok(accepted)
     }
 
     /// Says how a load ended. The answer is the refusal, if there is one. `word` is the command
@@ -102,9 +112,11 @@ impl Work {
         outcome: Result<(), Refusal>,
     ) -> Status
         ensures session { self.new.session ≡ self.old.session }
+        ensures ends { self.new.ends.items ≡ [] }
         ensures ok { OnOk outcome ((result ≡ Status.Accepted) × (self.new.answers ≡ [])) }
         ensures refused { IfErr outcome (λ refusal. (result ≡ Status.Refused) × TellsRefusal self.new.answers refusal) }
     {
+        self.ends.clear();
         self.hints.clear();
         self.hints.loaded(&self.session, word, name, text, &outcome);
         self.answers.tell(outcome)
@@ -212,6 +224,28 @@ pub fn copy_answers(bench: &mut Bench, out: &mut [u8]) -> usize
         Some(work) => work.answers.copy_to(out),
         None => 0,
     }
+}
+
+/// Copies where the answers of the last script end to the start of `out` if there is room for that,
+/// and returns their number.
+pub fn copy_ends(bench: &mut Bench, out: &mut [usize]) -> usize
+    ensures { AreCopied (ends_of bench.old.work) out.old out.new result
+        × (bench.new ≡ bench.old) }
+{
+    match &bench.work {
+        Some(work) => copy_numbers(&work.ends, out),
+        None => 0,
+    }
+}
+
+fn copy_numbers(numbers: &[usize], out: &mut [usize]) -> usize
+    ensures { AreCopied numbers.now out.old out.new result }
+{
+    let len = numbers.len();
+    if len <= out.len() {
+        out[..len].copy_from_slice(numbers);
+    }
+    len
 }
 
 /// Copies what was said of the last call to the start of `out` if there is room for it, and returns

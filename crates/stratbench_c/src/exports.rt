@@ -3,7 +3,7 @@
 ghost use Rattle.script_text.specs.declared.framing.Framing.TheVariants.{Continued, Lines};
 ghost use Rattle.session_loading.specs.Loading.{LoadsModule, LoadsTree};
 ghost use Rattle.stratbench_c.specs.Loads.{TellsLibrary, TellsLoad, TellsShown};
-ghost use Rattle.stratbench_c.specs.Runs.{AreCopied, IsNew, TellsExplained, TellsLimited, TellsRun, answers_of, hints_of};
+ghost use Rattle.stratbench_c.specs.Runs.{AreCopied, IsNew, TellsExplained, TellsLimited, TellsRun, answers_of, ends_of, hints_of};
 ghost use Rattle.stratbench_c.specs.declared.bench.Bench.{Bench as AnyBench};
 ghost use Rattle.stratbench_c.specs.contracts.bench.Bench as R;
 ghost use Rattle.std.specs.Prelude.{◌≡◌};
@@ -14,7 +14,8 @@ ghost use types.Logic.{sem};
 ghost use denote.RawPtr.{lies_at, room_at};
 
 use crate::bench::{
-    Bench, copy_answers, copy_hints, end, explain_calls, make, run_lines, run_script, set_limits,
+    Bench, copy_answers, copy_ends, copy_hints, end, explain_calls, make, run_lines, run_script,
+    set_limits,
 };
 use crate::loads::{set_library, set_module, set_tree};
 use crate::showing::show_tree;
@@ -136,6 +137,18 @@ pub unsafe extern "C" fn stratbench_copy(handle: *mut u8, out: &mut [u8]) -> usi
         ∗ ⌜ AreCopied (answers_of old.work) out.old out.new result ⌝ }
 {
     copy_answers(&mut *(handle as *mut Bench), out)
+}
+
+/// Copies where the answers of the last script end to the start of `out` if there is room for that,
+/// and returns their number.
+#[unsafe(no_mangle)]
+pub unsafe extern "C" fn stratbench_ends(handle: *mut u8, out: &mut [usize]) -> usize
+    ghost old: { AnyBench }
+    requires* { sem 𝓛 (lies_at R.the_row full_share handle old) }
+    ensures* { sem 𝓛 (lies_at R.the_row full_share handle old)
+        ∗ ⌜ AreCopied (ends_of old.work) out.old out.new result ⌝ }
+{
+    copy_ends(&mut *(handle as *mut Bench), out)
 }
 
 /// Copies what was said of the last call to the start of `out` if there is room for it, and returns

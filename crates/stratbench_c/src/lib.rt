@@ -12,13 +12,13 @@ mod status;
 
 pub use answers::Answers;
 pub use bench::{
-    Bench, Work, copy_answers, copy_hints, end, explain_calls, make, run_lines, run_script,
-    set_limits,
+    Bench, Work, copy_answers, copy_ends, copy_hints, end, explain_calls, make, run_lines,
+    run_script, set_limits,
 };
 pub use exports::{
-    stratbench_copy, stratbench_drop, stratbench_explain, stratbench_hints, stratbench_library,
-    stratbench_limits, stratbench_lines, stratbench_module, stratbench_new, stratbench_run,
-    stratbench_show, stratbench_size, stratbench_tree,
+    stratbench_copy, stratbench_drop, stratbench_ends, stratbench_explain, stratbench_hints,
+    stratbench_library, stratbench_limits, stratbench_lines, stratbench_module, stratbench_new,
+    stratbench_run, stratbench_show, stratbench_size, stratbench_tree,
 };
 pub use hints::Hints;
 pub use loads::{set_library, set_module, set_tree};

@@ -26,6 +26,7 @@ fn shown_at(bench: &mut Bench, name: &[u8]) -> Status
     let alloc = bench.alloc;
     match &mut bench.work {
         Some(work) => {
+            work.ends.clear();
             work.hints.clear();
             work.answers.show(alloc, &work.session, name)
         }
