@@ -1,11 +1,14 @@
 //! The free variables of a strategy.
 #![tactic(auto, using(crate::proofs::FreeLemmas::free_rules))]
 
-ghost use Rattle.std.specs.Prelude.{◌≡◌, [], IfOk, OnOk};
+ghost use Rattle.std.specs.Prelude.{◌≡◌, ◌++◌, [], IfOk, OnOk};
+ghost use Rattle.strategy_syntax.specs.Lists.{first_ones};
 ghost use Rattle.strategy_syntax.specs.Syntax.{patterns_of, strategies_of};
 ghost use Rattle.strategy_names.specs.Binders.{bound_from};
-ghost use Rattle.strategy_names.specs.Free.{free_variables};
+ghost use Rattle.strategy_names.specs.Free.{free, free_variables};
+ghost use Rattle.strategy_syntax.specs.Variables.{variables};
 ghost use Rattle.strategy_names.specs.inside.Met.{met, met_in_pattern, met_in_patterns, met_in_strategy, met_in_strategies};
+ghost use Rattle.term_core.specs.Tree.{same_name};
 
 use crate::binders::Binders;
 use std::alloc::Global;
@@ -23,8 +26,7 @@ pub fn free_variables(
     ensures { IfOk result (λ found. found
         ≡ bound_from first (free_variables parameters.now strategy.now) []) }
 {
-    let mut hidden = Binders::new(alloc);
-    hidden.open_all(parameters, 0)?;
+    let mut hidden = binders_of(alloc, parameters)?;
     let mut found = Binders::new(alloc);
     meet_in_strategy(&mut hidden, &mut found, first, strategy)?;
     Ok(found)
@@ -42,6 +44,35 @@ pub fn free_names(
     let found = free_variables(alloc, parameters, 0, strategy)?;
     let names = found.names()?;
     Ok(names)
+}
+
+/// The names of the variables of a rule, each once, without the parameters: first those of its left
+/// side, then those of its right side, then those that are free in its condition.
+pub fn rule_names(
+    alloc: Global,
+    parameters: &[Name],
+    left: &Pattern,
+    right: &Pattern,
+    condition: &Strategy,
+) -> Result<Vec<Name>, NoMemory>
+    ensures { IfOk result (λ names. names.items ≡ first_ones same_name parameters.now
+        (variables left.now ++ (variables right.now ++ free condition.now))) }
+{
+    let mut hidden = binders_of(alloc, parameters)?;
+    let mut found = Binders::new(alloc);
+    meet_in_pattern(&hidden, &mut found, 0, left)?;
+    meet_in_pattern(&hidden, &mut found, 0, right)?;
+    meet_in_strategy(&mut hidden, &mut found, 0, condition)?;
+    let names = found.names()?;
+    Ok(names)
+}
+
+fn binders_of(alloc: Global, parameters: &[Name]) -> Result<Binders, NoMemory>
+    ensures { IfOk result (λ hidden. hidden ≡ bound_from 0 parameters.now []) }
+{
+    let mut hidden = Binders::new(alloc);
+    hidden.open_all(parameters, 0)?;
+    Ok(hidden)
 }
 
 // Adds the variables that are free in a strategy and not hidden to those found.

@@ -5,4 +5,4 @@ mod binders;
 mod free;
 
 pub use binders::Binders;
-pub use free::{free_names, free_variables};
+pub use free::{free_names, free_variables, rule_names};
