@@ -10,7 +10,8 @@ use Rattle.strategy_tokens.specs.declared.token.Token.TheVariants.{Reserved, Int
 use Rattle.strategy_tokens.specs.declared.token.Sign.TheVariants.{OpenRound, CloseRound, Comma, Semicolon, Colon, Bar, FatArrow, Less, LeftChoice}
 use Rattle.strategy_parse.specs.declared.parser.state.ParserState.TheVariants.{Strategy as ToStrategy, FirstStrategy, Read, Used, PrimNamed, ScopeOpen, ScopeNamed, Pattern as ToPattern}
 use Rattle.strategy_parse.specs.declared.parser.state.ParserFrame.{ParserFrame}
-use Rattle.strategy_parse.specs.declared.parser.state.ParserFrame.TheVariants.{Operand, At, Strategy as ForStrategy, Pattern as ForPattern}
+use Rattle.strategy_parse.specs.declared.parser.state.ParserFrame.TheVariants.{InText, Operand, At, Strategy as ForStrategy, Pattern as ForPattern}
+use Rattle.strategy_parse.specs.declared.parser.state.Order.TheVariants.{Run, Written}
 use Rattle.strategy_parse.specs.declared.parser.state.Infix.TheVariants.{Before, Guarded, Otherwise}
 use Rattle.strategy_parse.specs.declared.parser.state.StrategyFrame.TheVariants.{Operator as Operated, Rec, Child, Scope, Application, If, Then, Else, Where, List as Strategies, Tail as SquareTail}
 use Rattle.strategy_parse.specs.declared.parser.state.PatternFrame.TheVariants.{Match, Build, Applied, Matched, Left as ClosureLeft, Right as ClosureRight, List as Patterns}
@@ -20,7 +21,7 @@ use Rattle.strategy_parse.specs.declared.parser.state.StrategyGroup.{StrategyGro
 use Rattle.strategy_parse.specs.declared.parser.state.StrategyGroup.TheVariants.{Round, Square, Arguments}
 use Rattle.strategy_parse.specs.declared.parser.state.PatternGroup.TheVariants.{Terms, Prim}
 use Rattle.strategy_tokens.specs.Marks.{is_mark}
-use Rattle.strategy_parse.specs.inside.Parser.{Next, goes, stuck, begin, after, after_arrow, after_seq, after_choice, after_element, closing, grouped, first_strategy, first_pattern, empty_bar, step}
+use Rattle.strategy_parse.specs.inside.Parser.{order_of, Next, goes, stuck, begin, after, after_arrow, after_seq, after_choice, after_element, closing, grouped, first_strategy, first_pattern, empty_bar, step}
 use Rattle.strategy_parse.proofs.Runs.{resume, at_end, go_on, Accepts, Refuses, open_round, fat_arrow, semicolon, left_choice_sign, less, choice-stuck, arrow-stuck, after-stuck, passes}
 use Rattle.strategy_parse.specs.Grammar.{ReadsMorePatterns, ReadsArrows, ReadsMoreNames, ReadsNames, word_of, ReadsChoice, ReadsSeq, ReadsArrow, ReadsPrefix, ReadsChoices, ReadsSomeChoices, ReadsMoreChoices}
 use Rattle.strategy_tokens.proofs.MarkLemmas.{mark_self}
@@ -56,6 +57,7 @@ Bare S = (s : Strategy) (t : Token) → after_arrow s S t ≡ after_seq s S t
 
 bare : (S : List ParserFrame) (s : Strategy) (x : List Token) (r : Strategy) → Accepts (after_choice s S) x r → Bare S
 bare [] s x r k a t = refl
+bare (InText ∷ S) s x r k a t = refl
 bare (Operand Before q ∷ S) s x r k a t = absurd (stuck-accepts (after_choice s (Operand Before q ∷ S)) x r (λ u. refl) k)
 bare (Operand Guarded q ∷ S) s x r k a t = absurd (stuck-accepts (after_choice s (Operand Guarded q ∷ S)) x r (λ u. refl) k)
 bare (Operand Otherwise b ∷ S) s x r k a t = refl
@@ -148,44 +150,44 @@ prim_reads (and_pattern p ps) n S x y r h k =
 -- ---- the productions
 
 mutual
-  choice_reads : (a : Choice) (S : List ParserFrame) (x y : List Token) (r : Strategy) → ReadsChoice a x y → Accepts (after_choice (core a) S) y r → Accepts (begin S) x r
+  choice_reads : (a : Choice) (S : List ParserFrame) (x y : List Token) (r : Strategy) → ReadsChoice a x y → Accepts (after_choice (core (order_of S) a) S) y r → Accepts (begin S) x r
   choice_reads (sequence a) S x y r h k =
-      seq_reads a S x y r h (same_accepts (after_arrow (core_seq a) S) (after_seq (core_seq a) S) y r (bare S (core_seq a) y r k (core_seq a)) (choice_in (core_seq a) S y r k))
+      seq_reads a S x y r h (same_accepts (after_arrow (core_seq (order_of S) a) S) (after_seq (core_seq (order_of S) a) S) y r (bare S (core_seq (order_of S) a) y r k (core_seq (order_of S) a)) (choice_in (core_seq (order_of S) a) S y r k))
   choice_reads (left_choice a b) S x y r h k =
       seq_reads a S x h.0 r h.1
-      (same_accepts (after_arrow (core_seq a) S) (after_seq (core_seq a) S) h.0 r (bare S (syntax.guard (core_seq a) syntax.id (core b)) y r k (core_seq a))
-      (rw h.2.1 (choice_reads b (Operand Otherwise syntax.id ∷ (Operand Guarded (core_seq a) ∷ S)) h.2.0 y r h.2.2 k)))
+      (same_accepts (after_arrow (core_seq (order_of S) a) S) (after_seq (core_seq (order_of S) a) S) h.0 r (bare S (syntax.guard (core_seq (order_of S) a) syntax.id (core (order_of S) b)) y r k (core_seq (order_of S) a))
+      (rw h.2.1 (choice_reads b (Operand Otherwise syntax.id ∷ (Operand Guarded (core_seq (order_of S) a) ∷ S)) h.2.0 y r h.2.2 k)))
   choice_reads (guarded_choice a b c) S x y r h k =
       seq_reads a S x h.0 r h.1
-      (same_accepts (after_arrow (core_seq a) S) (after_seq (core_seq a) S) h.0 r (bare S (syntax.guard (core_seq a) (core_seq b) (core c)) y r k (core_seq a))
-      (rw h.2.1 (seq_reads b (Operand Guarded (core_seq a) ∷ S) h.2.0 h.2.2.0 r h.2.2.1
-      (rw h.2.2.2.1 (choice_reads c (Operand Otherwise (core_seq b) ∷ (Operand Guarded (core_seq a) ∷ S)) h.2.2.2.0 y r h.2.2.2.2 k)))))
+      (same_accepts (after_arrow (core_seq (order_of S) a) S) (after_seq (core_seq (order_of S) a) S) h.0 r (bare S (syntax.guard (core_seq (order_of S) a) (core_seq (order_of S) b) (core (order_of S) c)) y r k (core_seq (order_of S) a))
+      (rw h.2.1 (seq_reads b (Operand Guarded (core_seq (order_of S) a) ∷ S) h.2.0 h.2.2.0 r h.2.2.1
+      (rw h.2.2.2.1 (choice_reads c (Operand Otherwise (core_seq (order_of S) b) ∷ (Operand Guarded (core_seq (order_of S) a) ∷ S)) h.2.2.2.0 y r h.2.2.2.2 k)))))
 
-  seq_reads : (a : Seq) (S : List ParserFrame) (x y : List Token) (r : Strategy) → ReadsSeq a x y → Accepts (after_arrow (core_seq a) S) y r → Accepts (begin S) x r
-  seq_reads (last a) S x y r h k = arrow_reads a S x y r h (arrow_in (core_arrow a) S y r k)
+  seq_reads : (a : Seq) (S : List ParserFrame) (x y : List Token) (r : Strategy) → ReadsSeq a x y → Accepts (after_arrow (core_seq (order_of S) a) S) y r → Accepts (begin S) x r
+  seq_reads (last a) S x y r h k = arrow_reads a S x y r h (arrow_in (core_arrow (order_of S) a) S y r k)
   seq_reads (before a b) S x y r h k =
-      arrow_reads a S x h.0 r h.1 (rw h.2.1 (seq_reads b (Operand Before (core_arrow a) ∷ S) h.2.0 y r h.2.2 k))
+      arrow_reads a S x h.0 r h.1 (rw h.2.1 (seq_reads b (Operand Before (core_arrow (order_of S) a) ∷ S) h.2.0 y r h.2.2 k))
 
-  arrow_reads : (a : Arrow) (S : List ParserFrame) (x y : List Token) (r : Strategy) → ReadsArrow a x y → Accepts (after (core_arrow a) S) y r → Accepts (begin S) x r
-  arrow_reads (arrow a ps) S x y r h k = prefix_reads a S x h.0 r h.1 (arrows_in ps (core_prefix a) S h.0 y r h.2 k)
+  arrow_reads : (a : Arrow) (S : List ParserFrame) (x y : List Token) (r : Strategy) → ReadsArrow a x y → Accepts (after (core_arrow (order_of S) a) S) y r → Accepts (begin S) x r
+  arrow_reads (arrow a ps) S x y r h k = prefix_reads a S x h.0 r h.1 (arrows_in ps (core_prefix (order_of S) a) S h.0 y r h.2 k)
 
-  prefix_reads : (a : Prefix) (S : List ParserFrame) (x y : List Token) (r : Strategy) → ReadsPrefix a x y → Accepts (after (core_prefix a) S) y r → Accepts (begin S) x r
+  prefix_reads : (a : Prefix) (S : List ParserFrame) (x y : List Token) (r : Strategy) → ReadsPrefix a x y → Accepts (after (core_prefix (order_of S) a) S) y r → Accepts (begin S) x r
   prefix_reads (question p) S x y r h k = rw h.1 (pattern_in p (ForPattern Match ∷ S) h.0 y r h.2 k)
   prefix_reads (exclamation p) S x y r h k = rw h.1 (pattern_in p (ForPattern Build ∷ S) h.0 y r h.2 k)
   prefix_reads (application a p) S x y r h k =
       rw h.1 (choice_reads a (ForStrategy Application ∷ S) h.0 h.2.0 r h.2.1
-      (rw h.2.2.1 (pattern_in p (ForPattern (Applied (core a)) ∷ S) h.2.2.0 y r h.2.2.2 k)))
+      (rw h.2.2.1 (pattern_in p (ForPattern (Applied (core (order_of S) a)) ∷ S) h.2.2.0 y r h.2.2.2 k)))
   prefix_reads identity S x y r h k = rw h k
   prefix_reads failure S x y r h k = rw h k
   prefix_reads (operator o a) S x y r h k =
       rw h.1 (rw h.2.1 (operator-begins o S h.2.0 r (choice_reads a (ForStrategy (Operated o) ∷ S) h.2.0 h.2.2.0 r h.2.2.1 (rw h.2.2.2 k))))
   prefix_reads (if_then a b) S x y r h k =
       rw h.1 (choice_reads a (ForStrategy If ∷ S) h.0 h.2.0 r h.2.1
-      (rw h.2.2.1 (choice_reads b (ForStrategy (Then (core a)) ∷ S) h.2.2.0 h.2.2.2.0 r h.2.2.2.1 (rw h.2.2.2.2 k))))
+      (rw h.2.2.1 (choice_reads b (ForStrategy (Then (core (order_of S) a)) ∷ S) h.2.2.0 h.2.2.2.0 r h.2.2.2.1 (rw h.2.2.2.2 k))))
   prefix_reads (if_then_else a b c) S x y r h k =
       rw h.1 (choice_reads a (ForStrategy If ∷ S) h.0 h.2.0 r h.2.1
-      (rw h.2.2.1 (choice_reads b (ForStrategy (Then (core a)) ∷ S) h.2.2.0 h.2.2.2.0 r h.2.2.2.1
-      (rw h.2.2.2.2.1 (choice_reads c (ForStrategy (Else (core a) (core b)) ∷ S) h.2.2.2.2.0 h.2.2.2.2.2.0 r h.2.2.2.2.2.1 (rw h.2.2.2.2.2.2 k))))))
+      (rw h.2.2.1 (choice_reads b (ForStrategy (Then (core (order_of S) a)) ∷ S) h.2.2.0 h.2.2.2.0 r h.2.2.2.1
+      (rw h.2.2.2.2.1 (choice_reads c (ForStrategy (Else (core (order_of S) a) (core (order_of S) b)) ∷ S) h.2.2.2.2.0 h.2.2.2.2.2.0 r h.2.2.2.2.2.1 (rw h.2.2.2.2.2.2 k))))))
   prefix_reads (recursion f a) S x y r h k =
       rw h.1 (rw h.2.1 (rw h.2.2.1 (choice_reads a (ForStrategy (Rec f) ∷ S) h.2.2.0 h.2.2.2.0 r h.2.2.2.1 (rw h.2.2.2.2 k))))
   prefix_reads (primitive n ps) S x y r h k = rw h.1 (rw h.2.1 (rw h.2.2.1 (prim_reads ps n S h.2.2.0 y r h.2.2.2 k)))
@@ -199,64 +201,68 @@ mutual
       (rw h.2.2.1 (pattern_in q (ForPattern (ClosureRight p) ∷ S) h.2.2.0 h.2.2.2.0 r h.2.2.2.1
       (rw h.2.2.2.2.1 (choice_reads a (ForStrategy (Where p q) ∷ S) h.2.2.2.2.0 h.2.2.2.2.2.0 r h.2.2.2.2.2.1 (rw h.2.2.2.2.2.2 k))))))
   prefix_reads (round cs) S x y r h k =
-      rw h.1 (choices_read cs Round S h.0 y r h.2 (subst (λ l. Accepts (after (in_brackets l) S) y r) (sym (strategies_of-list (core_all cs))) k))
+      rw h.1 (choices_read cs Round S h.0 y r h.2 (subst (λ l. Accepts (after (in_brackets l) S) y r) (sym (strategies_of-list (core_all (order_of S) cs))) k))
   prefix_reads (square cs) S x y r h k =
-      rw h.1 (choices_read cs Square S h.0 y r h.2 (subst (λ l. Accepts (after (syntax.congruence list l) S) y r) (sym (strategies_of-list (core_all cs))) k))
+      rw h.1 (choices_read cs Square S h.0 y r h.2 (subst (λ l. Accepts (after (syntax.congruence list l) S) y r) (sym (strategies_of-list (core_all (order_of S) cs))) k))
   prefix_reads (square_with_tail cs a) S x y r h k =
       rw h.1 (some_choices_read cs S h.0 h.2.0 r h.2.1
-      (choice_reads a (ForStrategy (SquareTail (strategy_list (core_all cs))) ∷ S) h.2.0 h.2.2.0 r h.2.2.1
-      (rw h.2.2.2 (subst (λ l. Accepts (after (syntax.tail_congruence l (core a)) S) y r) (sym (strategies_of-list (core_all cs))) k))))
+      (choice_reads a (ForStrategy (SquareTail (strategy_list (core_all (order_of S) cs))) ∷ S) h.2.0 h.2.2.0 r h.2.2.1
+      (rw h.2.2.2 (subst (λ l. Accepts (after (syntax.tail_congruence l (core (order_of S) a)) S) y r) (sym (strategies_of-list (core_all (order_of S) cs))) k))))
   prefix_reads (name f) S x y r h k = rw h (used_in f S y r k)
   prefix_reads (call f cs) S x y r h k =
-      rw h.1 (rw h.2.1 (choices_read cs (Arguments f) S h.2.0 y r h.2.2 (subst (λ l. Accepts (after (syntax.uses f l no_patterns) S) y r) (sym (strategies_of-list (core_all cs))) k)))
+      rw h.1 (rw h.2.1 (choices_read cs (Arguments f) S h.2.0 y r h.2.2 (subst (λ l. Accepts (after (syntax.uses f l no_patterns) S) y r) (sym (strategies_of-list (core_all (order_of S) cs))) k)))
   prefix_reads (call_with_terms f cs ps) S x y r h k =
       rw h.1 (rw h.2.1 (arguments_read cs f S h.2.0 h.2.2.0 r h.2.2.1
-      (list_in ps (Terms f (strategy_list (core_all cs))) S h.2.2.0 y r h.2.2.2
-      (subst (λ l. Accepts (after (syntax.uses f l (patterns_of (pattern_list ps))) S) y r) (sym (strategies_of-list (core_all cs)))
-      (subst (λ l. Accepts (after (syntax.uses f (core_all cs) l) S) y r) (sym (patterns_of-list ps)) k)))))
+      (list_in ps (Terms f (strategy_list (core_all (order_of S) cs))) S h.2.2.0 y r h.2.2.2
+      (subst (λ l. Accepts (after (syntax.uses f l (patterns_of (pattern_list ps))) S) y r) (sym (strategies_of-list (core_all (order_of S) cs)))
+      (subst (λ l. Accepts (after (syntax.uses f (core_all (order_of S) cs) l) S) y r) (sym (patterns_of-list ps)) k)))))
   prefix_reads (child i a) S x y r h k =
       rw h.1.1 (rw h.1.2.1 (child_reads i S h.1.2.0 r h.0 (choice_reads a (ForStrategy (Child i) ∷ S) h.1.2.0 h.1.2.2.0 r h.1.2.2.1 (rw h.1.2.2.2 k))))
 
   choices_read : (cs : Choices) (g : StrategyGroup) (S : List ParserFrame) (x y : List Token) (r : Strategy) → ReadsChoices cs (closing g) x y
-      → Accepts (after (grouped g (strategy_list (core_all cs))) S) y r → Accepts (first_strategy g S) x r
+      → Accepts (after (grouped g (strategy_list (core_all (order_of S) cs))) S) y r → Accepts (first_strategy g S) x r
   choices_read no_choices g S x y r h k = subst (λ l. Accepts (first_strategy g S) l r) (sym h) (closes_first g S y r k)
   choices_read (and_choice a cs) g S x y r h k =
-      first_in g S x r (choice_reads a (ForStrategy (Strategies g []) ∷ S) x h.0 r h.1 (more_choices_read cs g (core a ∷ []) S h.0 y r h.2 k))
+      first_in g S x r (choice_reads a (ForStrategy (Strategies g []) ∷ S) x h.0 r h.1 (more_choices_read cs g (core (order_of S) a ∷ []) S h.0 y r h.2 k))
 
   some_choices_read : (cs : Choices) (S : List ParserFrame) (x y : List Token) (r : Strategy) → ReadsSomeChoices cs Bar x y
-      → Accepts (begin (ForStrategy (SquareTail (strategy_list (core_all cs))) ∷ S)) y r → Accepts (first_strategy Square S) x r
+      → Accepts (begin (ForStrategy (SquareTail (strategy_list (core_all (order_of S) cs))) ∷ S)) y r → Accepts (first_strategy Square S) x r
   some_choices_read no_choices S x y r h k = absurd h
   some_choices_read (and_choice a cs) S x y r h k =
-      first_in Square S x r (choice_reads a (ForStrategy (Strategies Square []) ∷ S) x h.0 r h.1 (square_bar_reads cs (core a ∷ []) S h.0 y r h.2 k))
+      first_in Square S x r (choice_reads a (ForStrategy (Strategies Square []) ∷ S) x h.0 r h.1 (square_bar_reads cs (core (order_of S) a ∷ []) S h.0 y r h.2 k))
 
   arguments_read : (cs : Choices) (f : Symbol) (S : List ParserFrame) (x y : List Token) (r : Strategy) → ReadsChoices cs Bar x y
-      → Accepts (first_pattern (Terms f (strategy_list (core_all cs))) S) y r → Accepts (first_strategy (Arguments f) S) x r
+      → Accepts (first_pattern (Terms f (strategy_list (core_all (order_of S) cs))) S) y r → Accepts (first_strategy (Arguments f) S) x r
   arguments_read no_choices f S x y r h k = rw h k
   arguments_read (and_choice a cs) f S x y r h k =
-      first_in (Arguments f) S x r (choice_reads a (ForStrategy (Strategies (Arguments f) []) ∷ S) x h.0 r h.1 (arguments_bar_read cs f (core a ∷ []) S h.0 y r h.2 k))
+      first_in (Arguments f) S x r (choice_reads a (ForStrategy (Strategies (Arguments f) []) ∷ S) x h.0 r h.1 (arguments_bar_read cs f (core (order_of S) a ∷ []) S h.0 y r h.2 k))
 
   more_choices_read : (cs : Choices) (g : StrategyGroup) (done : List Strategy) (S : List ParserFrame) (x y : List Token) (r : Strategy) → ReadsMoreChoices cs (closing g) x y
-      → Accepts (after (grouped g (done ++ strategy_list (core_all cs))) S) y r → Accepts (after_element g done S) x r
+      → Accepts (after (grouped g (done ++ strategy_list (core_all (order_of S) cs))) S) y r → Accepts (after_element g done S) x r
   more_choices_read no_choices g done S x y r h k =
       subst (λ l. Accepts (after_element g done S) l r) (sym h) (closes_more g done S y r (subst (λ l. Accepts (after (grouped g l) S) y r) (append-nil done) k))
   more_choices_read (and_choice a cs) g done S x y r h k =
       rw h.1 (choice_reads a (ForStrategy (Strategies g done) ∷ S) h.0 h.2.0 r h.2.1
-      (more_choices_read cs g (done ++ core a ∷ []) S h.2.0 y r h.2.2 (subst (λ l. Accepts (after (grouped g l) S) y r) (sym (append_assoc done (core a ∷ []) (strategy_list (core_all cs)))) k)))
+      (more_choices_read cs g (done ++ core (order_of S) a ∷ []) S h.2.0 y r h.2.2 (subst (λ l. Accepts (after (grouped g l) S) y r) (sym (append_assoc done (core (order_of S) a ∷ []) (strategy_list (core_all (order_of S) cs)))) k)))
 
   square_bar_reads : (cs : Choices) (done : List Strategy) (S : List ParserFrame) (x y : List Token) (r : Strategy) → ReadsMoreChoices cs Bar x y
-      → Accepts (begin (ForStrategy (SquareTail (done ++ strategy_list (core_all cs))) ∷ S)) y r → Accepts (after_element Square done S) x r
+      → Accepts (begin (ForStrategy (SquareTail (done ++ strategy_list (core_all (order_of S) cs))) ∷ S)) y r → Accepts (after_element Square done S) x r
   square_bar_reads no_choices done S x y r h k = rw h (subst (λ l. Accepts (begin (ForStrategy (SquareTail l) ∷ S)) y r) (append-nil done) k)
   square_bar_reads (and_choice a cs) done S x y r h k =
       rw h.1 (choice_reads a (ForStrategy (Strategies Square done) ∷ S) h.0 h.2.0 r h.2.1
-      (square_bar_reads cs (done ++ core a ∷ []) S h.2.0 y r h.2.2 (subst (λ l. Accepts (begin (ForStrategy (SquareTail l) ∷ S)) y r) (sym (append_assoc done (core a ∷ []) (strategy_list (core_all cs)))) k)))
+      (square_bar_reads cs (done ++ core (order_of S) a ∷ []) S h.2.0 y r h.2.2 (subst (λ l. Accepts (begin (ForStrategy (SquareTail l) ∷ S)) y r) (sym (append_assoc done (core (order_of S) a ∷ []) (strategy_list (core_all (order_of S) cs)))) k)))
 
   arguments_bar_read : (cs : Choices) (f : Symbol) (done : List Strategy) (S : List ParserFrame) (x y : List Token) (r : Strategy) → ReadsMoreChoices cs Bar x y
-      → Accepts (first_pattern (Terms f (done ++ strategy_list (core_all cs))) S) y r → Accepts (after_element (Arguments f) done S) x r
+      → Accepts (first_pattern (Terms f (done ++ strategy_list (core_all (order_of S) cs))) S) y r → Accepts (after_element (Arguments f) done S) x r
   arguments_bar_read no_choices f done S x y r h k = rw h (subst (λ l. Accepts (first_pattern (Terms f l) S) y r) (append-nil done) k)
   arguments_bar_read (and_choice a cs) f done S x y r h k =
       rw h.1 (choice_reads a (ForStrategy (Strategies (Arguments f) done) ∷ S) h.0 h.2.0 r h.2.1
-      (arguments_bar_read cs f (done ++ core a ∷ []) S h.2.0 y r h.2.2 (subst (λ l. Accepts (first_pattern (Terms f l) S) y r) (sym (append_assoc done (core a ∷ []) (strategy_list (core_all cs)))) k)))
+      (arguments_bar_read cs f (done ++ core (order_of S) a ∷ []) S h.2.0 y r h.2.2 (subst (λ l. Accepts (first_pattern (Terms f l) S) y r) (sym (append_assoc done (core (order_of S) a ∷ []) (strategy_list (core_all (order_of S) cs)))) k)))
 
 -- the one result
-pub reads_all : (a : Choice) (x : List Token) → ReadsChoice a x [] → Accepts (begin []) x (core a)
-reads_all a x h = choice_reads a [] x [] (core a) h refl
+pub reads_all : (a : Choice) (x : List Token) → ReadsChoice a x [] → Accepts (begin []) x (core Run a)
+reads_all a x h = choice_reads a [] x [] (core Run a) h refl
+
+-- the same in the order of the text
+pub reads_in_text : (a : Choice) (x : List Token) → ReadsChoice a x [] → Accepts (begin (InText ∷ [])) x (core Written a)
+reads_in_text a x h = choice_reads a (InText ∷ []) x [] (core Written a) h refl

@@ -13,7 +13,7 @@ use Rattle.strategy_tokens.specs.declared.token.Sign.TheVariants.{OpenRound, Clo
 use Rattle.strategy_parse.specs.declared.parser.state.ParserState.{ParserState}
 use Rattle.strategy_parse.specs.declared.parser.state.ParserState.TheVariants.{Strategy as ToStrategy, FirstStrategy, Read, Used, Opening, Rec as AfterRec, Prim as AfterPrim, PrimOpen, PrimNamed, ScopeOpen, ScopeComma, ScopeNamed, Pattern as ToPattern, FirstPattern, Named, Base, Whole}
 use Rattle.strategy_parse.specs.declared.parser.state.ParserFrame.{ParserFrame}
-use Rattle.strategy_parse.specs.declared.parser.state.ParserFrame.TheVariants.{Operand, At, Strategy as ForStrategy, Pattern as ForPattern}
+use Rattle.strategy_parse.specs.declared.parser.state.ParserFrame.TheVariants.{InText, Operand, At, Strategy as ForStrategy, Pattern as ForPattern}
 use Rattle.strategy_parse.specs.declared.parser.state.Infix.TheVariants.{Before, Guarded, Otherwise}
 use Rattle.strategy_parse.specs.declared.parser.state.StrategyFrame.{StrategyFrame}
 use Rattle.strategy_parse.specs.declared.parser.state.StrategyFrame.TheVariants.{Operator as Operated, Rec, Child, Scope, Application, If, Then, Else, Where, List as Strategies, Tail as SquareTail}
@@ -22,8 +22,8 @@ use Rattle.strategy_parse.specs.declared.parser.state.PatternFrame.TheVariants.{
 use Rattle.strategy_parse.specs.declared.parser.state.StrategyGroup.{StrategyGroup}
 use Rattle.strategy_parse.specs.declared.parser.state.PatternGroup.{PatternGroup}
 use Rattle.strategy_parse.specs.declared.parser.state.PatternGroup.TheVariants.{Application as PApplication, List as PList, Tuple as PTuple, Annotations, Terms, Prim}
-use Rattle.strategy_parse.specs.Core.{operated, rewrite, rewrite_where}
-use Rattle.strategy_parse.specs.inside.Parser.{Next, goes, closing, grouped, after_element, in_frame, after_choice, after_seq, after_arrow, after, closing_sign, close_patterns, after_one, pattern_in_frame, after_pattern, after_base, step}
+use Rattle.strategy_parse.specs.Core.{operated, ordered, rewrite, rewrite_where}
+use Rattle.strategy_parse.specs.inside.Parser.{order_of, Next, goes, closing, grouped, after_element, in_frame, after_choice, after_seq, after_arrow, after, closing_sign, close_patterns, after_one, pattern_in_frame, after_pattern, after_base, step}
 use Rattle.strategy_parse.proofs.Runs.{Accepts, resume, go_on}
 use Rattle.strategy_parse.proofs.CompletePatterns.{base_in, named_in, list_in, rest_in}
 use Rattle.strategy_parse.proofs.CompleteStrategies.{arrow_in, used_in, choice_in, closes_first, closes_more}
@@ -75,7 +75,7 @@ frame_ends (Scope xs) S E s = by_token (ASign CloseCurly) (in_frame s (Scope xs)
 frame_ends Application S E s =
     by_token (ASign Greater) (in_frame s Application S) ToPattern (ForPattern (Applied s) ∷ S) refl
     (by_token Wildcard (step ToPattern (ForPattern (Applied s) ∷ S)) (Base wildcard) (ForPattern (Applied s) ∷ S) refl
-    (base_ends (ForPattern (Applied s) ∷ S) wildcard (read_ends S E (syntax.seq (syntax.builds wildcard) s))))
+    (base_ends (ForPattern (Applied s) ∷ S) wildcard (read_ends S E (ordered (order_of S) (syntax.builds wildcard) s))))
 frame_ends If S E s =
     by_token (Reserved KThen) (in_frame s If S) ToStrategy (ForStrategy (Then s) ∷ S) refl
     (by_token (Reserved KId) (step ToStrategy (ForStrategy (Then s) ∷ S)) (Read syntax.id) (ForStrategy (Then s) ∷ S) refl
@@ -84,7 +84,7 @@ frame_ends (Then a) S E s = then_ends a S E s
 frame_ends (Else a b) S E s =
     by_token (Reserved KEnd) (in_frame s (Else a b) S) (Read (syntax.guard (syntax.test a) b s)) S refl (read_ends S E (syntax.guard (syntax.test a) b s))
 frame_ends (Where p q) S E s =
-    let made = syntax.scope (first_ones same_name [] (variables p)) (rewrite_where p q s) in
+    let made = syntax.scope (first_ones same_name [] (variables p)) (rewrite_where (order_of S) p q s) in
     by_token (ASign Backslash) (in_frame s (Where p q) S) (Read made) S refl (read_ends S E made)
 frame_ends (Strategies g done) S E s = element_ends g (done ++ s ∷ []) S E
 frame_ends (SquareTail done) S E s =
@@ -114,7 +114,7 @@ right_ends l p S E =
 pattern_frame_ends : (F : PatternFrame) (S : List ParserFrame) → Finish (below F) S → (p : Pattern) → Ends (pattern_in_frame p F S)
 pattern_frame_ends Match S E p = read_ends S E (syntax.matches p)
 pattern_frame_ends Build S E p = read_ends S E (syntax.builds p)
-pattern_frame_ends (Applied s) S E p = read_ends S E (syntax.seq (syntax.builds p) s)
+pattern_frame_ends (Applied s) S E p = read_ends S E (ordered (order_of S) (syntax.builds p) s)
 pattern_frame_ends (Matched s) S E p = read_ends S E (syntax.seq s (syntax.matches p))
 pattern_frame_ends ClosureLeft S E p =
     by_token (ASign RightArrow) (pattern_in_frame p ClosureLeft S) ToPattern (ForPattern (ClosureRight p) ∷ S) refl
@@ -133,6 +133,10 @@ finish [] sequences h = λ s. ([], s, refl)
 finish [] choices h = λ s. ([], s, refl)
 finish [] others h = absurd h
 finish [] patterns h = λ p. ([], syntax.matches p, refl)
+finish (InText ∷ S) sequences h = absurd h
+finish (InText ∷ S) choices h = absurd h
+finish (InText ∷ S) others h = absurd h
+finish (InText ∷ S) patterns h = absurd h
 finish (Operand Before r ∷ S) sequences h = λ s. finish S sequences h (syntax.seq r s)
 finish (Operand Before r ∷ S) choices h = absurd h
 finish (Operand Before r ∷ S) others h = absurd h

@@ -13,7 +13,7 @@ use Rattle.strategy_tokens.specs.declared.token.Sign.TheVariants.{OpenRound, Clo
 use Rattle.strategy_parse.specs.declared.parser.state.ParserState.{ParserState}
 use Rattle.strategy_parse.specs.declared.parser.state.ParserState.TheVariants.{Strategy as ToStrategy, FirstStrategy, Read, Used, Opening, Rec as AfterRec, Prim as AfterPrim, PrimOpen, PrimNamed, ScopeOpen, ScopeComma, ScopeNamed, Pattern as ToPattern, FirstPattern, Named, Base, Whole}
 use Rattle.strategy_parse.specs.declared.parser.state.ParserFrame.{ParserFrame}
-use Rattle.strategy_parse.specs.declared.parser.state.ParserFrame.TheVariants.{Operand, At, Strategy as ForStrategy, Pattern as ForPattern}
+use Rattle.strategy_parse.specs.declared.parser.state.ParserFrame.TheVariants.{InText, Operand, At, Strategy as ForStrategy, Pattern as ForPattern}
 use Rattle.strategy_parse.specs.declared.parser.state.Infix.TheVariants.{Before, Guarded, Otherwise}
 use Rattle.strategy_parse.specs.declared.parser.state.StrategyFrame.{StrategyFrame}
 use Rattle.strategy_parse.specs.declared.parser.state.StrategyFrame.TheVariants.{Operator as Operated, Rec, Child, Scope, Application, If, Then, Else, Where, List as Strategies, Tail as SquareTail}
@@ -24,7 +24,8 @@ use Rattle.strategy_parse.specs.declared.parser.state.StrategyGroup.TheVariants.
 use Rattle.strategy_parse.specs.declared.parser.state.PatternGroup.{PatternGroup}
 use Rattle.strategy_parse.specs.declared.parser.state.PatternGroup.TheVariants.{Application as PApplication, List as PList, Tuple as PTuple, Annotations, Terms, Prim}
 use Rattle.strategy_tokens.specs.Marks.{is_mark, is_word}
-use Rattle.strategy_parse.specs.inside.Parser.{Next, goes, ends, stuck, begin, begin_sign, begin_word, begin_child, begin_pattern, open_pattern, closing, after_bar, after_element, in_frame, after_choice, after_seq, after_arrow, after, closing_sign, close_patterns, pattern_bar, after_one, pattern_in_frame, after_pattern, after_base, empty_bar, rec_name, prim_name, scope_name, step}
+use Rattle.strategy_parse.specs.Core.{ordered}
+use Rattle.strategy_parse.specs.inside.Parser.{order_of, Next, goes, ends, stuck, begin, begin_sign, begin_word, begin_child, begin_pattern, open_pattern, closing, after_bar, after_element, in_frame, after_choice, after_seq, after_arrow, after, closing_sign, close_patterns, pattern_bar, after_one, pattern_in_frame, after_pattern, after_base, empty_bar, rec_name, prim_name, scope_name, step}
 
 -- What is on top of the open forms: a strategy, which may be part of a sequence; a whole choice; the second part
 -- of a guarded choice; a pattern.
@@ -55,6 +56,7 @@ below (PatternTail ps) = patterns
 
 abbrev pub Fits : Position → List ParserFrame → Type 0
 Fits sequences [] = Unit {0}
+Fits sequences (InText ∷ S) = ⊥
 Fits sequences (Operand Before s ∷ S) = Fits sequences S
 Fits sequences (Operand Guarded s ∷ S) = Fits choices S
 Fits sequences (Operand Otherwise s ∷ S) = Fits others S
@@ -62,6 +64,7 @@ Fits sequences (ForStrategy F ∷ S) = Fits sequences S
 Fits sequences (At x ∷ S) = ⊥
 Fits sequences (ForPattern F ∷ S) = ⊥
 Fits choices [] = Unit {0}
+Fits choices (InText ∷ S) = ⊥
 Fits choices (Operand Before s ∷ S) = ⊥
 Fits choices (Operand Guarded s ∷ S) = ⊥
 Fits choices (Operand Otherwise s ∷ S) = Fits others S
@@ -69,6 +72,7 @@ Fits choices (ForStrategy F ∷ S) = Fits sequences S
 Fits choices (At x ∷ S) = ⊥
 Fits choices (ForPattern F ∷ S) = ⊥
 Fits others [] = ⊥
+Fits others (InText ∷ S) = ⊥
 Fits others (Operand Before s ∷ S) = ⊥
 Fits others (Operand Guarded s ∷ S) = Fits choices S
 Fits others (Operand Otherwise s ∷ S) = ⊥
@@ -76,6 +80,7 @@ Fits others (ForStrategy F ∷ S) = ⊥
 Fits others (At x ∷ S) = ⊥
 Fits others (ForPattern F ∷ S) = ⊥
 Fits patterns [] = Unit {0}
+Fits patterns (InText ∷ S) = ⊥
 Fits patterns (Operand i s ∷ S) = ⊥
 Fits patterns (ForStrategy F ∷ S) = ⊥
 Fits patterns (At x ∷ S) = Fits patterns S
@@ -190,10 +195,12 @@ frame-fits (SquareTail done) s S t h = either (is_mark CloseSquare t) _ _ h tt
 
 choice-fits : (S : List ParserFrame) (s : Strategy) (t : Token) → Fits choices S → FitsNext (after_choice s S t)
 choice-fits [] s t h = tt
+choice-fits (InText ∷ S) s t h = absurd h
 choice-fits (Operand Otherwise b ∷ []) s t h = absurd h
 choice-fits (Operand Otherwise b ∷ (Operand Guarded a ∷ S)) s t h = choice-fits S (syntax.guard a b s) t h
 choice-fits (Operand Otherwise b ∷ (Operand Before a ∷ S)) s t h = absurd h
 choice-fits (Operand Otherwise b ∷ (Operand Otherwise a ∷ S)) s t h = absurd h
+choice-fits (Operand Otherwise b ∷ (InText ∷ S)) s t h = absurd h
 choice-fits (Operand Otherwise b ∷ (At x ∷ S)) s t h = absurd h
 choice-fits (Operand Otherwise b ∷ (ForStrategy F ∷ S)) s t h = absurd h
 choice-fits (Operand Otherwise b ∷ (ForPattern F ∷ S)) s t h = absurd h
@@ -208,6 +215,7 @@ seq-fits S s t h = either (is_mark LeftChoice t) _ _ h (either (is_mark Less t) 
 
 arrow-fits : (S : List ParserFrame) (s : Strategy) (t : Token) → Fits sequences S → FitsNext (after_arrow s S t)
 arrow-fits [] s t h = seq-fits [] s t h
+arrow-fits (InText ∷ S) s t h = absurd h
 arrow-fits (Operand Before r ∷ S) s t h = arrow-fits S (syntax.seq r s) t h
 arrow-fits (Operand Guarded a ∷ S) s t h = either (is_mark Plus t) _ _ h tt
 arrow-fits (Operand Otherwise b ∷ S) s t h = seq-fits (Operand Otherwise b ∷ S) s t h
@@ -244,7 +252,7 @@ one-fits g ps S t h =
 pattern_frame-fits : (F : PatternFrame) (p : Pattern) (S : List ParserFrame) (t : Token) → Fits (below F) S → FitsNext (pattern_in_frame p F S t)
 pattern_frame-fits Match p S t h = after-fits S (syntax.matches p) t h
 pattern_frame-fits Build p S t h = after-fits S (syntax.builds p) t h
-pattern_frame-fits (Applied s) p S t h = after-fits S (syntax.seq (syntax.builds p) s) t h
+pattern_frame-fits (Applied s) p S t h = after-fits S (ordered (order_of S) (syntax.builds p) s) t h
 pattern_frame-fits (Matched s) p S t h = after-fits S (syntax.seq s (syntax.matches p)) t h
 pattern_frame-fits ClosureLeft p S t h = either (is_mark RightArrow t) _ _ h tt
 pattern_frame-fits (ClosureRight l) p S t h = either (is_mark Backslash t) _ _ h (either (is_word KWhere t) _ _ h tt)
@@ -253,6 +261,7 @@ pattern_frame-fits (PatternTail ps) p S t h = either (is_mark CloseSquare t) _ _
 
 after_pattern-fits : (S : List ParserFrame) (p : Pattern) (t : Token) → Fits patterns S → FitsNext (after_pattern p S t)
 after_pattern-fits [] p t h = tt
+after_pattern-fits (InText ∷ S) p t h = absurd h
 after_pattern-fits (At x ∷ S) p t h = after_pattern-fits S (syntax.at x p) t h
 after_pattern-fits (ForPattern F ∷ S) p t h = pattern_frame-fits F p S t h
 after_pattern-fits (Operand i s ∷ S) p t h = absurd h

@@ -1,5 +1,6 @@
 -- At the start of some tokens the machine and the grammar give the same.
-use Rattle.std.proofs.Common.{◌≡◌, refl, sym, ap, ◌∙◌, subst, List, [], ◌∷◌, ◌++◌, Some, None, length, arith, append-nil}
+use Rattle.std.proofs.Common.{◌≡◌, refl, sym, ap, ◌∙◌, subst, List, [], ◌∷◌, ◌++◌, Some, None, length, take, ◌+◌, ◌-◌, arith, append-nil, length-append}
+use Rattle.std.proofs.lemmas.List.{take_at}
 use Rattle.std.specs.declared.option.Option.{Option}
 use Rattle.strategy_syntax.specs.Syntax as syntax
 use Rattle.strategy_syntax.specs.Syntax.{Pattern, Strategy}
@@ -9,6 +10,8 @@ use Rattle.strategy_syntax.specs.declared.strategy.StrategyForm.TheVariants as f
 use Rattle.strategy_tokens.specs.declared.token.Token.{Token}
 use Rattle.strategy_parse.specs.declared.parser.state.ParserState.TheVariants.{Strategy as ToStrategy, Pattern as ToPattern}
 use Rattle.strategy_parse.specs.declared.parser.state.ParserFrame.{ParserFrame}
+use Rattle.strategy_parse.specs.declared.parser.state.ParserFrame.TheVariants.{InText}
+use Rattle.strategy_parse.specs.declared.parser.state.Order.TheVariants.{Run, Written}
 use Rattle.strategy_parse.specs.Written.{Choice}
 use Rattle.strategy_parse.specs.Grammar.{ReadsPattern, ReadsChoice, Reading}
 use Rattle.strategy_parse.specs.Core.{core}
@@ -17,7 +20,7 @@ use Rattle.strategy_parse.specs.inside.Fronts.{Stops, FrontGives}
 use Rattle.strategy_parse.proofs.Runs.{Accepts}
 use Rattle.strategy_parse.proofs.CompletePatterns.{pattern_in}
 use Rattle.strategy_parse.proofs.SoundPatterns.{FoundPattern, pattern_found}
-use Rattle.strategy_parse.proofs.CompleteStrategies.{reads_all}
+use Rattle.strategy_parse.proofs.CompleteStrategies.{reads_all, reads_in_text}
 use Rattle.strategy_parse.proofs.SoundStrategies.{read_all}
 use Rattle.strategy_parse.proofs.Frames.{Front, Framed, choice_framed, pattern_framed}
 use Rattle.strategy_parse.proofs.Fronts.{resumed_front, front_taken}
@@ -32,17 +35,32 @@ in_front R f w y h =
 alone : (R : Reading) (u y : List Token) → (f : Front R u y) → R f.taken []
 alone R u y f = subst (λ l. R l []) (append-nil f.taken) (f.anywhere [])
 
+-- a choice before a rest is all of the tokens before it
+pub choice_alone : (a : Choice) (x y : List Token) → ReadsChoice a x y → ReadsChoice a (take (length x - length y) x) []
+choice_alone a x y h =
+    let f = (choice_framed a).frames x y h in
+    let sum : length x ≡ length f.taken + length y = ap length f.splits ∙ length-append f.taken y in
+    let size : length f.taken ≡ length x - length y = omega arith in
+    let front : take (length x - length y) x ≡ f.taken = ap (take (length x - length y)) f.splits ∙ take_at f.taken y (length x - length y) size in
+    subst (λ l. ReadsChoice a l []) (sym front) (alone (ReadsChoice a) x y f)
+
 pub front-gives : (x : List Token) (s : Strategy) (y : List Token) → front (step ToStrategy []) x ≡ Some (s, y) → FrontGives x s y
 front-gives x s y e =
     let t = front_taken x ToStrategy [] s y e in
     let found = read_all t.taken s t.gives in
     (found.0, subst (λ l. ReadsChoice found.0 l y) (sym t.splits) (in_front (ReadsChoice found.0) (choice_framed found.0) t.taken y found.1), found.2)
 
-pub choice-front : (a : Choice) (x y : List Token) → ReadsChoice a x y → Stops y → front (step ToStrategy []) x ≡ Some (core a, y)
+pub choice-front : (a : Choice) (x y : List Token) → ReadsChoice a x y → Stops y → front (step ToStrategy []) x ≡ Some (core Run a, y)
 choice-front a x y h stops =
     let f = (choice_framed a).frames x y h in
-    let run = resumed_front f.taken ToStrategy [] y (core a) stops (reads_all a f.taken (alone (ReadsChoice a) x y f)) in
+    let run = resumed_front f.taken ToStrategy [] y (core Run a) stops (reads_all a f.taken (alone (ReadsChoice a) x y f)) in
     ap (front (step ToStrategy [])) f.splits ∙ run
+
+-- all of the tokens, in the order of the text
+pub text-front : (a : Choice) (x : List Token) → ReadsChoice a x [] → front (step ToStrategy (InText ∷ [])) x ≡ Some (core Written a, [])
+text-front a x h =
+    ap (front (step ToStrategy (InText ∷ []))) (sym (append-nil x))
+    ∙ resumed_front x ToStrategy (InText ∷ []) [] (core Written a) tt (reads_in_text a x h)
 
 -- ---- a pattern alone
 
@@ -86,14 +104,24 @@ module _ (x : List Token) (S : List ParserFrame) (bottom : S ≡ []) where
   pub strategy-given : (s : Strategy) (y : List Token) → front (step ToStrategy S) x ≡ Some (s, y) → FrontGives x s y
   strategy-given s y e = front-gives x s y (subst (λ l. front (step ToStrategy l) x ≡ Some (s, y)) bottom e)
 
-  reached : (a : Choice) (y : List Token) → ReadsChoice a x y → Stops y → front (step ToStrategy S) x ≡ Some (core a, y)
-  reached a y h stops = subst (λ l. front (step ToStrategy l) x ≡ Some (core a, y)) (sym bottom) (choice-front a x y h stops)
+  reached : (a : Choice) (y : List Token) → ReadsChoice a x y → Stops y → front (step ToStrategy S) x ≡ Some (core Run a, y)
+  reached a y h stops = subst (λ l. front (step ToStrategy l) x ≡ Some (core Run a, y)) (sym bottom) (choice-front a x y h stops)
 
-  pub strategy-only : (s : Strategy) (z : List Token) → front (step ToStrategy S) x ≡ Some (s, z) → (a : Choice) (y : List Token) → ReadsChoice a x y → Stops y → (core a ≡ s) × (y ≡ z)
-  strategy-only s z e a y h stops = same_front (core a) s y z (sym (reached a y h stops) ∙ e)
+  pub strategy-only : (s : Strategy) (z : List Token) → front (step ToStrategy S) x ≡ Some (s, z) → (a : Choice) (y : List Token) → ReadsChoice a x y → Stops y → (core Run a ≡ s) × (y ≡ z)
+  strategy-only s z e a y h stops = same_front (core Run a) s y z (sym (reached a y h stops) ∙ e)
 
   pub strategy-none : front (step ToStrategy S) x ≡ None → (a : Choice) (y : List Token) → ReadsChoice a x y → Stops y → ⊥
-  strategy-none e a y h stops = no_front (front (step ToStrategy S) x) (core a, y) e (reached a y h stops)
+  strategy-none e a y h stops = no_front (front (step ToStrategy S) x) (core Run a, y) e (reached a y h stops)
+
+module _ (x : List Token) (S : List ParserFrame) (bottom : S ≡ InText ∷ []) where
+  text-reached : (a : Choice) → ReadsChoice a x [] → front (step ToStrategy S) x ≡ Some (core Written a, [])
+  text-reached a h = subst (λ l. front (step ToStrategy l) x ≡ Some (core Written a, [])) (sym bottom) (text-front a x h)
+
+  pub text-only : (s : Strategy) (z : List Token) → front (step ToStrategy S) x ≡ Some (s, z) → (a : Choice) → ReadsChoice a x [] → core Written a ≡ s
+  text-only s z e a h = (same_front (core Written a) s [] z (sym (text-reached a h) ∙ e)).0
+
+  pub text-none : front (step ToStrategy S) x ≡ None → (a : Choice) → ReadsChoice a x [] → ⊥
+  text-none e a h = no_front (front (step ToStrategy S) x) (core Written a, []) e (text-reached a h)
 
 module _ (x : List Token) (S : List ParserFrame) (bottom : S ≡ []) where
   pub pattern-given : (s : Strategy) (p : Pattern) (y : List Token) → front (step ToPattern S) x ≡ Some (s, y) → s ≡ syntax.matches p → ReadsPattern p x y

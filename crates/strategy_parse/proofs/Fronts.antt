@@ -14,7 +14,7 @@ use Rattle.strategy_tokens.specs.declared.token.Sign.TheVariants.{OpenRound, Clo
 use Rattle.strategy_parse.specs.declared.parser.state.ParserState.{ParserState}
 use Rattle.strategy_parse.specs.declared.parser.state.ParserState.TheVariants.{Strategy as ToStrategy, FirstStrategy, Read, Used, Opening, Rec as AfterRec, Prim as AfterPrim, PrimOpen, PrimNamed, ScopeOpen, ScopeComma, ScopeNamed, Pattern as ToPattern, FirstPattern, Named, Base, Whole}
 use Rattle.strategy_parse.specs.declared.parser.state.ParserFrame.{ParserFrame}
-use Rattle.strategy_parse.specs.declared.parser.state.ParserFrame.TheVariants.{Operand, At, Strategy as ForStrategy, Pattern as ForPattern}
+use Rattle.strategy_parse.specs.declared.parser.state.ParserFrame.TheVariants.{InText, Operand, At, Strategy as ForStrategy, Pattern as ForPattern}
 use Rattle.strategy_parse.specs.declared.parser.state.Infix.TheVariants.{Before, Guarded, Otherwise}
 use Rattle.strategy_parse.specs.declared.parser.state.StrategyFrame.{StrategyFrame}
 use Rattle.strategy_parse.specs.declared.parser.state.StrategyFrame.TheVariants.{Operator as Operated, Rec, Child, Scope, Application, If, Then, Else, Where, List as Strategies, Tail as SquareTail}
@@ -25,7 +25,8 @@ use Rattle.strategy_parse.specs.declared.parser.state.StrategyGroup.TheVariants.
 use Rattle.strategy_parse.specs.declared.parser.state.PatternGroup.{PatternGroup}
 use Rattle.strategy_parse.specs.declared.parser.state.PatternGroup.TheVariants.{Application as PApplication, List as PList, Tuple as PTuple, Annotations, Terms, Prim}
 use Rattle.strategy_tokens.specs.Marks.{is_mark, is_word}
-use Rattle.strategy_parse.specs.inside.Parser.{Next, goes, ends, stuck, begin, begin_sign, begin_word, begin_child, begin_pattern, open_pattern, after, after_arrow, after_seq, after_choice, in_frame, after_element, after_bar, close_strategies, closing, grouped, after_pattern, after_base, pattern_in_frame, after_one, pattern_bar, closing_sign, close_patterns, first_strategy, empty_bar, rec_name, prim_name, scope_name, begin_scope, step, front, front_of}
+use Rattle.strategy_parse.specs.Core.{ordered}
+use Rattle.strategy_parse.specs.inside.Parser.{order_of, Next, goes, ends, stuck, begin, begin_sign, begin_word, begin_child, begin_pattern, open_pattern, after, after_arrow, after_seq, after_choice, in_frame, after_element, after_bar, close_strategies, closing, grouped, after_pattern, after_base, pattern_in_frame, after_one, pattern_bar, closing_sign, close_patterns, first_strategy, empty_bar, rec_name, prim_name, scope_name, begin_scope, step, front, front_of}
 use Rattle.strategy_parse.proofs.Runs.{resume, at_end, go_on}
 use Rattle.strategy_parse.specs.inside.Fronts.{goes_on, Stops}
 
@@ -106,10 +107,12 @@ module _ (t u : Token) (k : Quiet u) where
 
   choice-ends : (S : List ParserFrame) (s r : Strategy) → after_choice s S t ≡ ends r → after_choice s S u ≡ ends r
   choice-ends [] s r e = e
+  choice-ends (InText ∷ S) s r e = e
   choice-ends (Operand Otherwise b ∷ []) s r e = absurd (cc)
   choice-ends (Operand Otherwise b ∷ (Operand Guarded a ∷ S)) s r e = choice-ends S (syntax.guard a b s) r e
   choice-ends (Operand Otherwise b ∷ (Operand Before a ∷ S)) s r e = absurd (cc)
   choice-ends (Operand Otherwise b ∷ (Operand Otherwise a ∷ S)) s r e = absurd (cc)
+  choice-ends (Operand Otherwise b ∷ (InText ∷ S)) s r e = absurd (cc)
   choice-ends (Operand Otherwise b ∷ (At x ∷ S)) s r e = absurd (cc)
   choice-ends (Operand Otherwise b ∷ (ForStrategy F ∷ S)) s r e = absurd (cc)
   choice-ends (Operand Otherwise b ∷ (ForPattern F ∷ S)) s r e = absurd (cc)
@@ -127,6 +130,7 @@ module _ (t u : Token) (k : Quiet u) where
 
   arrow-ends : (S : List ParserFrame) (s r : Strategy) → after_arrow s S t ≡ ends r → after_arrow s S u ≡ ends r
   arrow-ends [] s r e = seq-ends [] s r e
+  arrow-ends (InText ∷ S) s r e = seq-ends (InText ∷ S) s r e
   arrow-ends (Operand Before a ∷ S) s r e = arrow-ends S (syntax.seq a s) r e
   arrow-ends (Operand Guarded a ∷ S) s r e = absurd (only-no (is_mark Plus t) _ _ r e)
   arrow-ends (Operand Otherwise b ∷ S) s r e = seq-ends (Operand Otherwise b ∷ S) s r e
@@ -156,7 +160,7 @@ module _ (t u : Token) (k : Quiet u) where
   pattern_frame-ends : (F : PatternFrame) (p : Pattern) (S : List ParserFrame) (r : Strategy) → pattern_in_frame p F S t ≡ ends r → pattern_in_frame p F S u ≡ ends r
   pattern_frame-ends Match p S r e = after-ends S (syntax.matches p) r e
   pattern_frame-ends Build p S r e = after-ends S (syntax.builds p) r e
-  pattern_frame-ends (Applied s) p S r e = after-ends S (syntax.seq (syntax.builds p) s) r e
+  pattern_frame-ends (Applied s) p S r e = after-ends S (ordered (order_of S) (syntax.builds p) s) r e
   pattern_frame-ends (Matched s) p S r e = after-ends S (syntax.seq s (syntax.matches p)) r e
   pattern_frame-ends ClosureLeft p S r e = absurd (only-no (is_mark RightArrow t) _ _ r e)
   pattern_frame-ends (ClosureRight l) p S r e = absurd (if-no (is_mark Backslash t) _ _ (goes-no _ _) (only-no (is_word KWhere t) _ _) r e)
@@ -165,6 +169,7 @@ module _ (t u : Token) (k : Quiet u) where
 
   pattern-ends : (S : List ParserFrame) (p : Pattern) (r : Strategy) → after_pattern p S t ≡ ends r → after_pattern p S u ≡ ends r
   pattern-ends [] p r e = e
+  pattern-ends (InText ∷ S) p r e = absurd (cc)
   pattern-ends (At x ∷ S) p r e = pattern-ends S (syntax.at x p) r e
   pattern-ends (ForPattern F ∷ S) p r e = pattern_frame-ends F p S r e
   pattern-ends (Operand Before a ∷ S) p r e = absurd (cc)

@@ -8,7 +8,7 @@ use Rattle.strategy_tokens.specs.declared.token.Token.{Token}
 use Rattle.strategy_tokens.specs.declared.token.Sign.TheVariants.{Plus}
 use Rattle.strategy_parse.specs.declared.parser.state.ParserState.TheVariants.{Strategy as ToStrategy}
 use Rattle.strategy_parse.specs.declared.parser.state.ParserFrame.{ParserFrame}
-use Rattle.strategy_parse.specs.declared.parser.state.ParserFrame.TheVariants.{Operand, At, Strategy as ForStrategy, Pattern as ForPattern}
+use Rattle.strategy_parse.specs.declared.parser.state.ParserFrame.TheVariants.{InText, Operand, At, Strategy as ForStrategy, Pattern as ForPattern}
 use Rattle.strategy_parse.specs.declared.parser.state.Infix.TheVariants.{Before, Guarded, Otherwise}
 use Rattle.strategy_parse.specs.declared.parser.state.PatternGroup.TheVariants.{Prim}
 use Rattle.strategy_tokens.specs.Marks.{is_mark}
@@ -23,6 +23,7 @@ arrow-guarded s S t h = rw h.2 refl
 
 pub arrow-bare : (s : Strategy) (S : List ParserFrame) (t : Token) → no_operand Before S → no_operand Guarded S → after_arrow s S t ≡ after_seq s S t
 arrow-bare s [] t h k = refl
+arrow-bare s (InText ∷ S) t h k = refl
 arrow-bare s (Operand Before r ∷ S) t h k = absurd (h r S refl)
 arrow-bare s (Operand Guarded r ∷ S) t h k = absurd (k r S refl)
 arrow-bare s (Operand Otherwise b ∷ S) t h k = refl

@@ -1,7 +1,6 @@
 -- A list of tokens is at most one module.
-use Rattle.std.proofs.Common.{◌≡◌, ℕ, zero, suc, ◌<◌, ◌≤◌, refl, sym, ap, ◌∙◌, subst, List, [], ◌∷◌, ◌++◌, Some, None, length, arith}
+use Rattle.std.proofs.Common.{◌≡◌, ℕ, zero, suc, ◌<◌, ◌≤◌, refl, sym, ap, ◌∙◌, subst, List, [], ◌∷◌, Some, None, length, take, ◌-◌, arith}
 use Rattle.std.specs.declared.option.Option.{Option}
-use Rattle.term_core.specs.Tree.{Symbol, same_name}
 use Rattle.strategy_syntax.specs.Syntax as syntax
 use Rattle.strategy_syntax.specs.Syntax.{Pattern, Strategy}
 use Rattle.strategy_syntax.specs.Modules.{Module, Constructor, Definition}
@@ -12,6 +11,8 @@ use Rattle.strategy_tokens.specs.declared.token.Keyword.TheVariants.{Module as K
 use Rattle.strategy_tokens.specs.declared.token.Sign.TheVariants.{Colon, Equals, Arrow as RightArrow}
 use Rattle.strategy_parse.specs.declared.modules.sections.Context.{Context}
 use Rattle.strategy_parse.specs.declared.modules.sections.Context.TheVariants.{Outside, Signature as InSignature, Sorts, Constructors, Definitions}
+use Rattle.strategy_parse.specs.declared.parser.state.Order.TheVariants.{Run, Written}
+use Rattle.strategy_names.specs.Free.{free_variables}
 use Rattle.strategy_parse.specs.Written.{Choice, Defined, definition, rule, rule_where}
 use Rattle.strategy_parse.specs.Grammar.{ReadsPattern, ReadsChoice}
 use Rattle.strategy_parse.specs.GrammarModules.{ReadsDefined}
@@ -24,7 +25,8 @@ use Rattle.strategy_parse.specs.inside.Sections.{IsItem, joined, SectionsLeft, S
 use Rattle.strategy_parse.proofs.HeaderLemmas.{after_found, header_named}
 use Rattle.strategy_parse.proofs.SortLemmas.{sort_alone}
 use Rattle.strategy_parse.proofs.DeclarationLemmas.{declaration_named}
-use Rattle.strategy_parse.proofs.FrontGives.{choice-front, pattern-front, strategy-only}
+use Rattle.strategy_parse.proofs.FrontGives.{choice_alone, choice-front, pattern-front, strategy-only}
+use Rattle.strategy_parse.proofs.Gives.{one_written}
 use Rattle.strategy_parse.proofs.RuleLemmas.{PatternAt, ChoiceAt, Headed, headed, rule_only, where_only, body_only, ruled_only}
 use Rattle.strategy_parse.proofs.SectionWords.{WordStep, word_step, left_end}
 use Rattle.strategy_parse.proofs.SectionItems.{outside_item, signature_item, SortStep, sort_step, DeclarationStep, declaration_step, DefinitionStep, definition_step}
@@ -49,8 +51,8 @@ pattern_at x p y h e = record {
       (is, pair-right (syntax.matches q) (syntax.matches p) z y same);
 }
 
-choice_at : (u : Choice) (x y : List Token) → ReadsChoice u x y → Stops y → ChoiceAt x (core u) y
-choice_at u x y h e = record { given = (u, h, refl); only = strategy-only x [] refl (core u) y (choice-front u x y h e) }
+choice_at : (u : Choice) (x y : List Token) → ReadsChoice u x y → Stops y → ChoiceAt x (core Run u) y
+choice_at u x y h e = record { given = (u, h, refl); only = strategy-only x [] refl (core Run u) y (choice-front u x y h e) }
 
 -- any definition there is this one
 abbrev Only : List Token → Definition → List Token → Type 0
@@ -67,9 +69,9 @@ definition_one (definition h u) x y r e =
     let header : header_at x ≡ Some (h, r.0) = header_named h x r.0 r.1 t.ends in
     let sign : after_mark Equals r.0 ≡ Some r.2.0 = ap (after_mark Equals) r.2.1 ∙ after_found Equals r.2.0 in
     record {
-      definition = defined h (core u);
+      definition = defined h (core Run u);
       rest = y;
-      only = body_only x h r.0 header r.2.0 sign (core u) y (defined h (core u))
+      only = body_only x h r.0 header r.2.0 sign (core Run u) y (defined h (core Run u))
           (choice_at u r.2.0 y r.2.2 e.stops).only refl;
     }
 definition_one (rule h p q) x y r e =
@@ -78,7 +80,7 @@ definition_one (rule h p q) x y r e =
     let plain : after_mark Equals r.0 ≡ None = ap (after_mark Equals) r.2.1 in
     let colon : after_mark Colon r.0 ≡ Some r.2.0 = ap (after_mark Colon) r.2.1 ∙ after_found Colon r.2.0 in
     let arrow : after_mark RightArrow r.2.2.0 ≡ Some r.2.2.2.0 = ap (after_mark RightArrow) r.2.2.2.1 ∙ after_found RightArrow r.2.2.2.0 in
-    let d : Definition = defined h (closed h.terms (rewrite p q)) in
+    let d : Definition = defined h (closed h.terms (λ o. rewrite p q)) in
     record {
       definition = d;
       rest = y;
@@ -92,14 +94,17 @@ definition_one (rule_where h p q u) x y r e =
     let plain : after_mark Equals r.0 ≡ None = ap (after_mark Equals) r.2.1 in
     let colon : after_mark Colon r.0 ≡ Some r.2.0 = ap (after_mark Colon) r.2.1 ∙ after_found Colon r.2.0 in
     let arrow : after_mark RightArrow r.2.2.0 ≡ Some r.2.2.2.0 = ap (after_mark RightArrow) r.2.2.2.1 ∙ after_found RightArrow r.2.2.2.0 in
-    let d : Definition = defined h (closed h.terms (rewrite_where p q (core u))) in
+    let z = r.2.2.2.2.2.0 in
+    let d : Definition = defined h (closed h.terms (λ o. rewrite_where o p q (core o u))) in
     record {
       definition = d;
       rest = y;
       only = ruled_only x h r.0 header plain r.2.0 colon d y
           (where_only r.2.0 p r.2.2.0 (pattern_at r.2.0 p r.2.2.0 r.2.2.1 (subst Stops (sym r.2.2.2.1) refl)) r.2.2.2.0 arrow q r.2.2.2.2.0
           (pattern_at r.2.2.2.0 q r.2.2.2.2.0 r.2.2.2.2.1 (subst Stops (sym r.2.2.2.2.2.1) refl))
-          r.2.2.2.2.2.0 r.2.2.2.2.2.1 (core u) y (choice_at u r.2.2.2.2.2.0 y r.2.2.2.2.2.2 e.stops) h d refl);
+          z r.2.2.2.2.2.1 (core Run u) y (choice_at u z y r.2.2.2.2.2.2 e.stops) h (free_variables h.terms (rewrite_where Written p q (core Written u)))
+          (λ w k. ap (λ s. free_variables h.terms (rewrite_where Written p q s)) (one_written (take (length z - length y) z) u w (choice_alone u z y r.2.2.2.2.2.2) k))
+          d refl);
     }
 
 -- ---- the rest is unique

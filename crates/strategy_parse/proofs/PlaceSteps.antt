@@ -31,6 +31,7 @@ use Rattle.strategy_parse.specs.declared.modules.place.ModulePlace.TheVariants a
 use Rattle.strategy_parse.specs.Written.{Sort, Sorts as SortList, no_sorts, and_sort, Declaration, constant, function, Defined, definition, rule, rule_where}
 use Rattle.strategy_parse.specs.Grammar.{ReadsNames, ReadsMoreNames, Mark}
 use Rattle.strategy_parse.specs.GrammarModules.{ReadsSort, ReadsMoreSorts, ReadsDeclaration, ReadsDefined}
+use Rattle.strategy_parse.specs.declared.parser.state.Order.TheVariants.{Run}
 use Rattle.strategy_parse.specs.Core.{core, sort_count, core_definition, declared}
 use Rattle.strategy_parse.specs.Gives.{GivesModule}
 use Rattle.strategy_parse.specs.inside.Fronts.{Stops}
@@ -207,7 +208,7 @@ header_out f g ss ts x z y e h k = (ss, ts, y, subst (λ l. Brackets ss ts l y) 
 
 defined_out : (d : Defined) (f : Symbol) (x v : List Token) → ReadsDefined d (Ident f ∷ x) v → DefinitionEnds v → Parts Definitions v → InHeader x
 defined_out (definition h a) f x v r ends left =
-    header_out f h.name h.strategies h.terms x r.1.0 r.0 r.1.1 r.1.2 (inl (r.2.0, r.2.1, (core a, v, choice-front a r.2.0 v r.2.2 ends.stops, left)))
+    header_out f h.name h.strategies h.terms x r.1.0 r.0 r.1.1 r.1.2 (inl (r.2.0, r.2.1, (core Run a, v, choice-front a r.2.0 v r.2.2 ends.stops, left)))
 defined_out (rule h p q) f x v r ends left =
     header_out f h.name h.strategies h.terms x r.1.0 r.0 r.1.1 r.1.2
     (inr (
@@ -237,7 +238,7 @@ defined_out (rule_where h p q a) f x v r ends left =
             syntax.matches q,
             w.0,
             pattern-front q r.2.2.2.0 w.0 w.1 (where_stops w.0 w.2.0 w.2.1),
-            inr (w.2.0, w.2.1, (core a, v, choice-front a w.2.0 v w.2.2 ends.stops, left)),
+            inr (w.2.0, w.2.1, (core Run a, v, choice-front a w.2.0 v w.2.2 ends.stops, left)),
           ),
         ),
       ),

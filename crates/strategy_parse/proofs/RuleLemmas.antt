@@ -1,7 +1,8 @@
 -- Rules and definitions, by the grammar and as the functions read them.
-use Rattle.std.proofs.Common.{◌≡◌, true, false, refl, sym, ap, ◌∙◌, subst, List, [], ◌∷◌, Some, None}
+use Rattle.std.proofs.Common.{◌≡◌, true, false, refl, sym, ap, ◌∙◌, subst, List, [], ◌∷◌, Some, None, length, take, ◌-◌}
 use Rattle.std.specs.declared.option.Option.{Option}
-use Rattle.strategy_syntax.specs.Syntax.{Pattern, Strategy}
+use Rattle.term_core.specs.Tree.{Symbol}
+use Rattle.strategy_syntax.specs.Syntax.{Pattern, Strategy, scope}
 use Rattle.strategy_syntax.specs.Modules.{Definition}
 use Rattle.strategy_tokens.specs.declared.token.Token.{Token}
 use Rattle.strategy_tokens.specs.declared.token.Token.TheVariants.{Reserved, Sign as ASign}
@@ -9,6 +10,8 @@ use Rattle.strategy_tokens.specs.declared.token.Keyword.TheVariants.{Where}
 use Rattle.strategy_tokens.specs.declared.token.Sign.{Sign}
 use Rattle.strategy_tokens.specs.declared.token.Sign.TheVariants.{OpenRound, Colon, Equals, Arrow as RightArrow}
 use Rattle.strategy_tokens.specs.Marks.{is_mark, is_word}
+use Rattle.strategy_names.specs.Free.{free_variables}
+use Rattle.strategy_parse.specs.declared.parser.state.Order.TheVariants.{Run, Written}
 use Rattle.strategy_parse.specs.Written.{Choice, Header, Defined, definition, rule, rule_where}
 use Rattle.strategy_parse.specs.Grammar.{ReadsPattern, ReadsChoice}
 use Rattle.strategy_parse.specs.GrammarModules.{ReadsHeader, ReadsDefined}
@@ -17,6 +20,7 @@ use Rattle.strategy_parse.specs.inside.Fronts.{FrontGives, Stops}
 use Rattle.strategy_parse.specs.inside.NextToken.{next_token, NoMark}
 use Rattle.strategy_parse.specs.inside.ModuleFronts.{after_mark, header_at, HeaderLeft}
 use Rattle.strategy_parse.specs.inside.Definitions.{DefinitionEnds, DefinitionGives, header_of, ReadsRule, RuleGives}
+use Rattle.strategy_parse.proofs.FrontGives.{choice_alone}
 use Rattle.strategy_parse.proofs.HeaderLemmas.{after_found, mark_found, header_named, header_found}
 
 -- ---- a pattern at the start of x, and the rest
@@ -28,7 +32,7 @@ pub record PatternAt (x : List Token) (p : Pattern) (a : List Token) : Type 0 wh
 -- a choice there
 pub record ChoiceAt (x : List Token) (s : Strategy) (a : List Token) : Type 0 where
   pub given : FrontGives x s a
-  pub only : (u : Choice) (y : List Token) → ReadsChoice u x y → Stops y → (core u ≡ s) × (y ≡ a)
+  pub only : (u : Choice) (y : List Token) → ReadsChoice u x y → Stops y → (core Run u ≡ s) × (y ≡ a)
 
 abbrev pub NoChoice : List Token → Type 0
 NoChoice x = (u : Choice) (y : List Token) → ReadsChoice u x y → Stops y → ⊥
@@ -99,7 +103,7 @@ module _ (x : List Token) (p : Pattern) (a : List Token) (at_left : PatternAt x 
       both_are w y t = at_right.only t.right t.after_right (subst (λ l. ReadsPattern t.right l t.after_right) (right_is w y t) t.reads_right) t.stops
 
       -- both patterns were read, and no condition follows
-      pub rule_gives : (h : Header) (d : Definition) → d ≡ defined h (closed h.terms (rewrite p q)) → RuleGives h x d c
+      pub rule_gives : (h : Header) (d : Definition) → d ≡ defined h (closed h.terms (λ o. rewrite p q)) → RuleGives h x d c
       rule_gives h d e = record {
         written = rule h p q;
         header = refl;
@@ -110,7 +114,7 @@ module _ (x : List Token) (p : Pattern) (a : List Token) (at_left : PatternAt x 
       same_rule : (h k : Header) (l r : Pattern) → k ≡ h → l ≡ p → r ≡ q → core_definition (rule k l r) ≡ core_definition (rule h p q)
       same_rule h k l r e f g = λ i. core_definition (rule (e i) (f i) (g i))
 
-      pub rule_only : (h : Header) (d : Definition) → d ≡ defined h (closed h.terms (rewrite p q))
+      pub rule_only : (h : Header) (d : Definition) → d ≡ defined h (closed h.terms (λ o. rewrite p q))
           → is_word Where (next_token c) ≡ false → (w : Defined) (y : List Token) → header_of w ≡ h → ReadsRule w x y → DefinitionEnds y → (core_definition w ≡ d) × (y ≡ c)
       rule_only h d e none (definition k s) y f r ends = absurd r
       rule_only h d e none (rule k l s) y f r ends =
@@ -140,18 +144,27 @@ module _ (x : List Token) (p : Pattern) (a : List Token) (at_left : PatternAt x 
             let at_z : r.2.2.2.0 ≡ z = rest-is r.2.2.2.0 z (sym (both_are (rule_where k l s u) y t).1 ∙ r.2.2.2.1) word in
             none u y (subst (λ m. ReadsChoice u m y) at_z r.2.2.2.2) ends.stops
 
-        module _ (s : Strategy) (v : List Token) (at_choice : ChoiceAt z s v) (h : Header) (d : Definition) (is : d ≡ defined h (closed h.terms (rewrite_where p q s))) where
+        -- the code reads the condition's tokens once more, in the order of the text
+        pub no_order : (s : Strategy) (v : List Token) → ChoiceAt z s v → ((u : Choice) → ReadsChoice u (take (length z - length v) z) [] → ⊥) → ⊥
+        no_order s v at_choice none = none at_choice.given.0 (choice_alone at_choice.given.0 z v at_choice.given.1)
+
+        module _ (s : Strategy) (v : List Token) (at_choice : ChoiceAt z s v) (h : Header) (xs : List Symbol)
+            (names : (u : Choice) → ReadsChoice u (take (length z - length v) z) [] → xs ≡ free_variables h.terms (rewrite_where Written p q (core Written u)))
+            (d : Definition) (is : d ≡ defined h (scope xs (rewrite_where Run p q s))) where
+          -- whatever choice is read there
+          same_form : (u : Choice) → ReadsChoice u z v → core Run u ≡ s → core_definition (rule_where h p q u) ≡ d
+          same_form u r o = (λ i. defined h (scope (sym (names u (choice_alone u z v r)) i) (rewrite_where Run p q (o i)))) ∙ sym is
+
           pub where_gives : RuleGives h x d v
           where_gives = record {
             written = rule_where h p q at_choice.given.0;
             header = refl;
             reads = (a, at_left.given, (b, mark_found RightArrow a b arrow, (c, at_right.given, (z, word, at_choice.given.1))));
-            is = ap (λ l. defined h (closed h.terms (rewrite_where p q l))) at_choice.given.2 ∙ sym is;
+            is = same_form at_choice.given.0 at_choice.given.1 at_choice.given.2;
           }
 
-          -- another choice there has the same core form
-          same_where : (k : Header) (l r : Pattern) (u : Choice) → k ≡ h → l ≡ p → r ≡ q → core u ≡ s → core_definition (rule_where k l r u) ≡ d
-          same_where k l r u e f g o = (λ i. defined (e i) (closed (e i).terms (rewrite_where (f i) (g i) (o i)))) ∙ sym is
+          same_where : (k : Header) (l r : Pattern) (u : Choice) → k ≡ h → l ≡ p → r ≡ q → core_definition (rule_where k l r u) ≡ core_definition (rule_where h p q u)
+          same_where k l r u e f g = λ i. core_definition (rule_where (e i) (f i) (g i) u)
 
           pub where_only : (w : Defined) (y : List Token) → header_of w ≡ h → ReadsRule w x y → DefinitionEnds y → (core_definition w ≡ d) × (y ≡ v)
           where_only (definition k t) y f r ends = absurd r
@@ -161,8 +174,11 @@ module _ (x : List Token) (p : Pattern) (a : List Token) (at_left : PatternAt x 
           where_only (rule_where k l t u) y f r ends =
               let m : Patterns (rule_where k l t u) x y = patterns_of (rule_where k l t u) x y r ends in
               let at_z : r.2.2.2.0 ≡ z = rest-is r.2.2.2.0 z (sym (both_are (rule_where k l t u) y m).1 ∙ r.2.2.2.1) word in
-              let only = at_choice.only u y (subst (λ n. ReadsChoice u n y) at_z r.2.2.2.2) ends.stops in
-              (same_where k l t u f (left_is (rule_where k l t u) y m).0 (both_are (rule_where k l t u) y m).0 only.0, only.1)
+              let reads : ReadsChoice u z y = subst (λ n. ReadsChoice u n y) at_z r.2.2.2.2 in
+              let only = at_choice.only u y reads ends.stops in (
+                same_where k l t u f (left_is (rule_where k l t u) y m).0 (both_are (rule_where k l t u) y m).0 ∙ same_form u (subst (ReadsChoice u z) only.1 reads) only.0,
+                only.1,
+              )
 
 -- ---- definitions
 
@@ -217,7 +233,7 @@ module _ (x : List Token) (h : Header) (a : List Token) (at_header : header_at x
       is = ap (defined h) g.2 ∙ sym e;
     }
 
-    pub body_only : (s : Strategy) (v : List Token) (d : Definition) → ((u : Choice) (y : List Token) → ReadsChoice u b y → Stops y → (core u ≡ s) × (y ≡ v)) → d ≡ defined h s
+    pub body_only : (s : Strategy) (v : List Token) (d : Definition) → ((u : Choice) (y : List Token) → ReadsChoice u b y → Stops y → (core Run u ≡ s) × (y ≡ v)) → d ≡ defined h s
         → (w : Defined) (y : List Token) → ReadsDefined w x y → DefinitionEnds y → (core_definition w ≡ d) × (y ≡ v)
     body_only s v d only e (definition k u) y r ends =
         let t : Headed (definition k u) x y = headed (definition k u) x y r in

@@ -12,7 +12,7 @@ use Rattle.strategy_tokens.specs.declared.token.Sign.{Sign}
 use Rattle.strategy_tokens.specs.declared.token.Sign.TheVariants.{OpenRound, CloseRound, CloseSquare, OpenCurly, CloseCurly, Comma, Semicolon, Bar, FatArrow, Arrow as RightArrow, Less, Greater, LeftChoice, Plus, At as AtSign, Backslash}
 use Rattle.strategy_parse.specs.declared.parser.state.ParserState.{ParserState}
 use Rattle.strategy_parse.specs.declared.parser.state.ParserFrame.{ParserFrame}
-use Rattle.strategy_parse.specs.declared.parser.state.ParserFrame.TheVariants.{Operand, At, Strategy as ForStrategy, Pattern as ForPattern}
+use Rattle.strategy_parse.specs.declared.parser.state.ParserFrame.TheVariants.{InText, Operand, At, Strategy as ForStrategy, Pattern as ForPattern}
 use Rattle.strategy_parse.specs.declared.parser.state.Infix.TheVariants.{Before, Guarded, Otherwise}
 use Rattle.strategy_parse.specs.declared.parser.state.StrategyFrame.{StrategyFrame}
 use Rattle.strategy_parse.specs.declared.parser.state.StrategyFrame.TheVariants.{Operator as Operated, Rec, Child, Scope, Application, If, Then, Else, Where, List as Strategies, Tail as SquareTail}
@@ -23,7 +23,8 @@ use Rattle.strategy_parse.specs.declared.parser.state.StrategyGroup.TheVariants.
 use Rattle.strategy_parse.specs.declared.parser.state.PatternGroup.{PatternGroup}
 use Rattle.strategy_parse.specs.declared.parser.state.PatternGroup.TheVariants.{Application as PApplication, List as PList, Tuple as PTuple, Annotations, Terms, Prim}
 use Rattle.strategy_tokens.specs.Marks.{is_mark, is_word}
-use Rattle.strategy_parse.specs.inside.Parser.{Next, stuck, after, after_arrow, after_choice, in_frame, after_element, after_pattern, pattern_in_frame, after_one, step, goes, ends}
+use Rattle.strategy_parse.specs.Core.{ordered}
+use Rattle.strategy_parse.specs.inside.Parser.{Next, order_of, stuck, after, after_arrow, after_choice, in_frame, after_element, after_pattern, pattern_in_frame, after_one, step, goes, ends}
 use Rattle.strategy_tokens.proofs.MarkLemmas.{mark_is, word_is}
 
 abbrev pub at_end : Next → Option Strategy
@@ -135,10 +136,12 @@ module _ (t : Token) (h : NoEnd t) where
 
   pub choice-stuck : (S : List ParserFrame) (s : Strategy) → Refuses (after_choice s S t)
   choice-stuck [] s K = refl
+  choice-stuck (InText ∷ S) s K = refl
   choice-stuck (Operand Otherwise b ∷ []) s K = refl
   choice-stuck (Operand Otherwise b ∷ (Operand Guarded a ∷ S)) s K = choice-stuck S (syntax.guard a b s) K
   choice-stuck (Operand Otherwise b ∷ (Operand Before a ∷ S)) s K = refl
   choice-stuck (Operand Otherwise b ∷ (Operand Otherwise a ∷ S)) s K = refl
+  choice-stuck (Operand Otherwise b ∷ (InText ∷ S)) s K = refl
   choice-stuck (Operand Otherwise b ∷ (At x ∷ S)) s K = refl
   choice-stuck (Operand Otherwise b ∷ (ForStrategy F ∷ S)) s K = refl
   choice-stuck (Operand Otherwise b ∷ (ForPattern F ∷ S)) s K = refl
@@ -151,6 +154,7 @@ module _ (t : Token) (h : NoEnd t) where
   module _ (choice : is_mark LeftChoice t ≡ false) (lesser : is_mark Less t ≡ false) where
     pub arrow-stuck : (S : List ParserFrame) (s : Strategy) → Refuses (after_arrow s S t)
     arrow-stuck [] s K = rw (choice, lesser) refl
+    arrow-stuck (InText ∷ S) s K = rw (choice, lesser) refl
     arrow-stuck (Operand Before a ∷ S) s K = arrow-stuck S (syntax.seq a s) K
     arrow-stuck (Operand Guarded a ∷ S) s K = rw h.plus refl
     arrow-stuck (Operand Otherwise b ∷ S) s K = rw (choice, lesser) (choice-stuck (Operand Otherwise b ∷ S) s K)
@@ -173,7 +177,7 @@ module _ (t : Token) (h : NoEnd t) where
       pattern_frame-stuck : (F : PatternFrame) (p : Pattern) (S : List ParserFrame) → Refuses (pattern_in_frame p F S t)
       pattern_frame-stuck Match p S K = after-stuck S (syntax.matches p) K
       pattern_frame-stuck Build p S K = after-stuck S (syntax.builds p) K
-      pattern_frame-stuck (Applied s) p S K = after-stuck S (syntax.seq (syntax.builds p) s) K
+      pattern_frame-stuck (Applied s) p S K = after-stuck S (ordered (order_of S) (syntax.builds p) s) K
       pattern_frame-stuck (Matched s) p S K = after-stuck S (syntax.seq s (syntax.matches p)) K
       pattern_frame-stuck ClosureLeft p S K = rw h.arrow refl
       pattern_frame-stuck (ClosureRight l) p S K = rw (h.backslash, h.where_word) refl
@@ -182,6 +186,7 @@ module _ (t : Token) (h : NoEnd t) where
 
       pub pattern-stuck : (S : List ParserFrame) (p : Pattern) → Refuses (after_pattern p S t)
       pattern-stuck [] p K = refl
+      pattern-stuck (InText ∷ S) p K = refl
       pattern-stuck (At x ∷ S) p K = pattern-stuck S (at x p) K
       pattern-stuck (ForPattern F ∷ S) p K = pattern_frame-stuck F p S K
       pattern-stuck (Operand Before a ∷ S) p K = refl

@@ -15,7 +15,7 @@ use Rattle.strategy_parse.specs.declared.parser.state.StrategyFrame.TheVariants.
 use Rattle.strategy_parse.specs.declared.parser.state.StrategyGroup.{StrategyGroup}
 use Rattle.strategy_parse.specs.declared.parser.state.PatternGroup.TheVariants.{Prim}
 use Rattle.strategy_tokens.specs.Marks.{is_mark}
-use Rattle.strategy_parse.specs.inside.Parser.{goes, begin, after, after_arrow, after_seq, after_choice, after_element, after_bar, close_strategies, closing, grouped, first_strategy, empty_bar}
+use Rattle.strategy_parse.specs.inside.Parser.{order_of, goes, begin, after, after_arrow, after_seq, after_choice, after_element, after_bar, close_strategies, closing, grouped, first_strategy, empty_bar}
 use Rattle.strategy_parse.specs.Written.{sequence, left_choice, guarded_choice, last, before, arrow, no_choices, and_choice}
 use Rattle.strategy_parse.specs.Core.{then_matched, core, core_seq, core_prefix, core_all}
 use Rattle.strategy_parse.proofs.Runs.{Accepts, Goes, at_mark, only_mark}
@@ -28,12 +28,12 @@ module _ (n : ℕ) (P : PrefixesTo n) where
   seq_found (suc m) le S x r lx k =
       let found : FoundPrefix S x r = P S x r (omega arith) k in
       let lt : length found.rest < length x = found.shorter in
-      let arrows : FoundArrows (core_prefix found.prefix) S found.rest r = arrows_found (length found.rest) (core_prefix found.prefix) S found.rest r (omega arith) found.accepts in
+      let arrows : FoundArrows (core_prefix (order_of S) found.prefix) S found.rest r = arrows_found (length found.rest) (core_prefix (order_of S) found.prefix) S found.rest r (omega arith) found.accepts in
       let la : length arrows.rest ≤ length found.rest = arrows.shorter in
-      elim (at_mark Semicolon (goes ToStrategy (Operand Before (then_matched (core_prefix found.prefix) arrows.patterns) ∷ S)) (after_arrow (then_matched (core_prefix found.prefix) arrows.patterns) S) arrows.rest r arrows.accepts) [
+      elim (at_mark Semicolon (goes ToStrategy (Operand Before (then_matched (core_prefix (order_of S) found.prefix) arrows.patterns) ∷ S)) (after_arrow (then_matched (core_prefix (order_of S) found.prefix) arrows.patterns) S) arrows.rest r arrows.accepts) [
         | inl next ↦
             let l : length arrows.rest ≡ suc (length next.0) = ap length next.1 in
-            let more : FoundSeq (Operand Before (then_matched (core_prefix found.prefix) arrows.patterns) ∷ S) next.0 r = seq_found m (omega arith) (Operand Before (then_matched (core_prefix found.prefix) arrows.patterns) ∷ S) next.0 r (omega arith) next.2 in
+            let more : FoundSeq (Operand Before (then_matched (core_prefix (order_of S) found.prefix) arrows.patterns) ∷ S) next.0 r = seq_found m (omega arith) (Operand Before (then_matched (core_prefix (order_of S) found.prefix) arrows.patterns) ∷ S) next.0 r (omega arith) next.2 in
             let lm : length more.rest < length next.0 = more.shorter in
             record {
               seq = before (arrow found.prefix arrows.patterns) more.seq;
@@ -56,11 +56,11 @@ module _ (n : ℕ) (P : PrefixesTo n) where
   choice_found (suc m) le S x r bare lx k =
       let a : FoundSeq S x r = seq_found (suc m) le S x r lx k in
       let la : length a.rest < length x = a.shorter in
-      elim (at_mark LeftChoice (goes ToStrategy (Operand Otherwise syntax.id ∷ (Operand Guarded (core_seq a.seq) ∷ S))) (λ t. if (is_mark Less t) then goes ToStrategy (Operand Guarded (core_seq a.seq) ∷ S) else after_choice (core_seq a.seq) S t) a.rest r
-      (same_accepts (after_seq (core_seq a.seq) S) (after_arrow (core_seq a.seq) S) a.rest r (λ t. sym (bare (core_seq a.seq) t)) a.accepts)) [
+      elim (at_mark LeftChoice (goes ToStrategy (Operand Otherwise syntax.id ∷ (Operand Guarded (core_seq (order_of S) a.seq) ∷ S))) (λ t. if (is_mark Less t) then goes ToStrategy (Operand Guarded (core_seq (order_of S) a.seq) ∷ S) else after_choice (core_seq (order_of S) a.seq) S t) a.rest r
+      (same_accepts (after_seq (core_seq (order_of S) a.seq) S) (after_arrow (core_seq (order_of S) a.seq) S) a.rest r (λ t. sym (bare (core_seq (order_of S) a.seq) t)) a.accepts)) [
         | inl next ↦
             let l : length a.rest ≡ suc (length next.0) = ap length next.1 in
-            let b : FoundChoice (Operand Otherwise syntax.id ∷ (Operand Guarded (core_seq a.seq) ∷ S)) next.0 r = choice_found m (omega arith) (Operand Otherwise syntax.id ∷ (Operand Guarded (core_seq a.seq) ∷ S)) next.0 r (λ s t. refl) (omega arith) next.2 in
+            let b : FoundChoice (Operand Otherwise syntax.id ∷ (Operand Guarded (core_seq (order_of S) a.seq) ∷ S)) next.0 r = choice_found m (omega arith) (Operand Otherwise syntax.id ∷ (Operand Guarded (core_seq (order_of S) a.seq) ∷ S)) next.0 r (λ s t. refl) (omega arith) next.2 in
             let lb : length b.rest < length next.0 = b.shorter in
             record {
               choice = left_choice a.seq b.choice;
@@ -69,14 +69,14 @@ module _ (n : ℕ) (P : PrefixesTo n) where
               accepts = b.accepts;
               shorter = omega arith;
             }
-        | inr other ↦ elim (at_mark Less (goes ToStrategy (Operand Guarded (core_seq a.seq) ∷ S)) (after_choice (core_seq a.seq) S) a.rest r other) [
+        | inr other ↦ elim (at_mark Less (goes ToStrategy (Operand Guarded (core_seq (order_of S) a.seq) ∷ S)) (after_choice (core_seq (order_of S) a.seq) S) a.rest r other) [
           | inl next ↦
               let l : length a.rest ≡ suc (length next.0) = ap length next.1 in
-              let b : FoundSeq (Operand Guarded (core_seq a.seq) ∷ S) next.0 r = seq_found m (omega arith) (Operand Guarded (core_seq a.seq) ∷ S) next.0 r (omega arith) next.2 in
+              let b : FoundSeq (Operand Guarded (core_seq (order_of S) a.seq) ∷ S) next.0 r = seq_found m (omega arith) (Operand Guarded (core_seq (order_of S) a.seq) ∷ S) next.0 r (omega arith) next.2 in
               let lb : length b.rest < length next.0 = b.shorter in
-              let plus = only_mark Plus (goes ToStrategy (Operand Otherwise (core_seq b.seq) ∷ (Operand Guarded (core_seq a.seq) ∷ S))) b.rest r b.accepts in
+              let plus = only_mark Plus (goes ToStrategy (Operand Otherwise (core_seq (order_of S) b.seq) ∷ (Operand Guarded (core_seq (order_of S) a.seq) ∷ S))) b.rest r b.accepts in
               let lp : length b.rest ≡ suc (length plus.0) = ap length plus.1 in
-              let c : FoundChoice (Operand Otherwise (core_seq b.seq) ∷ (Operand Guarded (core_seq a.seq) ∷ S)) plus.0 r = choice_found m (omega arith) (Operand Otherwise (core_seq b.seq) ∷ (Operand Guarded (core_seq a.seq) ∷ S)) plus.0 r (λ s t. refl) (omega arith) plus.2 in
+              let c : FoundChoice (Operand Otherwise (core_seq (order_of S) b.seq) ∷ (Operand Guarded (core_seq (order_of S) a.seq) ∷ S)) plus.0 r = choice_found m (omega arith) (Operand Otherwise (core_seq (order_of S) b.seq) ∷ (Operand Guarded (core_seq (order_of S) a.seq) ∷ S)) plus.0 r (λ s t. refl) (omega arith) plus.2 in
               let lc : length c.rest < length plus.0 = c.shorter in
               record {
                 choice = guarded_choice a.seq b.seq c.choice;
@@ -96,7 +96,7 @@ module _ (n : ℕ) (P : PrefixesTo n) where
   -- ---- lists
 
   and_more : (g : StrategyGroup) (done : List Strategy) (S : List ParserFrame) (x z : List Token) (r : Strategy) → x ≡ ASign Comma ∷ z → (a : FoundChoice (ForStrategy (Strategies g done) ∷ S) z r)
-      → MoreOf g (done ++ core a.choice ∷ []) S a.rest r → MoreOf g done S x r
+      → MoreOf g (done ++ core (order_of S) a.choice ∷ []) S a.rest r → MoreOf g done S x r
   and_more g done S x z r e a (inl more) =
       let l : length x ≡ suc (length z) = ap length e in
       let la : length a.rest < length z = a.shorter in
@@ -105,7 +105,7 @@ module _ (n : ℕ) (P : PrefixesTo n) where
         choices = and_choice a.choice more.choices;
         rest = more.rest;
         reads = (z, e, (a.rest, a.reads, more.reads));
-        accepts = subst (λ l. Accepts (after (grouped g l) S) more.rest r) (append_assoc done (core a.choice ∷ []) (strategy_list (core_all more.choices))) more.accepts;
+        accepts = subst (λ l. Accepts (after (grouped g l) S) more.rest r) (append_assoc done (core (order_of S) a.choice ∷ []) (strategy_list (core_all (order_of S) more.choices))) more.accepts;
         shorter = omega arith;
       })
   and_more g done S x z r e a (inr more) =
@@ -116,7 +116,7 @@ module _ (n : ℕ) (P : PrefixesTo n) where
         choices = and_choice a.choice more.choices;
         rest = more.rest;
         reads = (z, e, (a.rest, a.reads, more.reads));
-        goes_on = subst (λ l. Goes (after_bar g l S) more.rest r) (append_assoc done (core a.choice ∷ []) (strategy_list (core_all more.choices))) more.goes_on;
+        goes_on = subst (λ l. Goes (after_bar g l S) more.rest r) (append_assoc done (core (order_of S) a.choice ∷ []) (strategy_list (core_all (order_of S) more.choices))) more.goes_on;
         shorter = omega arith;
       })
 
@@ -153,11 +153,11 @@ module _ (n : ℕ) (P : PrefixesTo n) where
         let l : length x ≡ suc (length next.0) = ap length next.1 in
         let a : FoundChoice (ForStrategy (Strategies g done) ∷ S) next.0 r = framed (Strategies g done) S next.0 r (omega arith) next.2 in
         let la : length a.rest < length next.0 = a.shorter in
-        and_more g done S x next.0 r next.1 a (more_found_in m (omega arith) g (done ++ core a.choice ∷ []) S a.rest r (omega arith) a.accepts)
+        and_more g done S x next.0 r next.1 a (more_found_in m (omega arith) g (done ++ core (order_of S) a.choice ∷ []) S a.rest r (omega arith) a.accepts)
     | inr other ↦ more_ends g done S x r other
   ]
 
-  first_more : (g : StrategyGroup) (S : List ParserFrame) (x : List Token) (r : Strategy) → (a : FoundChoice (ForStrategy (Strategies g []) ∷ S) x r) → MoreOf g (core a.choice ∷ []) S a.rest r → ListOf g S x r
+  first_more : (g : StrategyGroup) (S : List ParserFrame) (x : List Token) (r : Strategy) → (a : FoundChoice (ForStrategy (Strategies g []) ∷ S) x r) → MoreOf g (core (order_of S) a.choice ∷ []) S a.rest r → ListOf g S x r
   first_more g S x r a (inl more) =
       let la : length a.rest < length x = a.shorter in
       let lm : length more.rest < length a.rest = more.shorter in
@@ -179,6 +179,6 @@ module _ (n : ℕ) (P : PrefixesTo n) where
       | inr first ↦
           let a : FoundChoice (ForStrategy (Strategies g []) ∷ S) x r = framed (Strategies g []) S x r le first in
           let la : length a.rest < length x = a.shorter in
-          first_more g S x r a (more_found_in n (omega arith) g (core a.choice ∷ []) S a.rest r (omega arith) a.accepts)
+          first_more g S x r a (more_found_in n (omega arith) g (core (order_of S) a.choice ∷ []) S a.rest r (omega arith) a.accepts)
     ]
   ]

@@ -17,7 +17,7 @@ use Rattle.strategy_parse.specs.declared.parser.state.PatternFrame.TheVariants.{
 use Rattle.strategy_parse.specs.declared.parser.state.StrategyGroup.{StrategyGroup}
 use Rattle.strategy_parse.specs.declared.parser.state.PatternGroup.TheVariants.{Prim}
 use Rattle.strategy_tokens.specs.Marks.{is_mark}
-use Rattle.strategy_parse.specs.inside.Parser.{Next, goes, stuck, begin, begin_pattern, after, after_arrow, after_choice, in_frame, after_bar, closing, grouped, empty_bar, scope_name, step}
+use Rattle.strategy_parse.specs.inside.Parser.{order_of, Next, goes, stuck, begin, begin_pattern, after, after_arrow, after_choice, in_frame, after_bar, closing, grouped, empty_bar, scope_name, step}
 use Rattle.strategy_parse.specs.Grammar.{ReadsArrows, ReadsMoreNames, ReadsNames, ReadsChoice, ReadsSeq, ReadsPrefix, ReadsChoices, ReadsSomeChoices, ReadsMoreChoices}
 use Rattle.strategy_parse.specs.Written.{Choice, Seq, Prefix, Choices, and_choice}
 use Rattle.strategy_parse.specs.Core.{then_matched, core, core_seq, core_prefix, core_all}
@@ -30,7 +30,7 @@ pub record FoundPrefix (S : List ParserFrame) (x : List Token) (r : Strategy) : 
   pub prefix : Prefix
   pub rest : List Token
   pub reads : ReadsPrefix prefix x rest
-  pub accepts : Accepts (after (core_prefix prefix) S) rest r
+  pub accepts : Accepts (after (core_prefix (order_of S) prefix) S) rest r
   pub shorter : length rest < length x
 
 abbrev pub after_arrows : Strategy → List ParserFrame → Token → Next
@@ -47,14 +47,14 @@ pub record FoundSeq (S : List ParserFrame) (x : List Token) (r : Strategy) : Typ
   pub seq : Seq
   pub rest : List Token
   pub reads : ReadsSeq seq x rest
-  pub accepts : Accepts (after_arrow (core_seq seq) S) rest r
+  pub accepts : Accepts (after_arrow (core_seq (order_of S) seq) S) rest r
   pub shorter : length rest < length x
 
 pub record FoundChoice (S : List ParserFrame) (x : List Token) (r : Strategy) : Type 0 where
   pub choice : Choice
   pub rest : List Token
   pub reads : ReadsChoice choice x rest
-  pub accepts : Accepts (after_choice (core choice) S) rest r
+  pub accepts : Accepts (after_choice (core (order_of S) choice) S) rest r
   pub shorter : length rest < length x
 
 -- the further strategies of a list, up to the sign that closes it
@@ -62,7 +62,7 @@ pub record MoreClosed (g : StrategyGroup) (done : List Strategy) (S : List Parse
   pub choices : Choices
   pub rest : List Token
   pub reads : ReadsMoreChoices choices (closing g) x rest
-  pub accepts : Accepts (after (grouped g (done ++ strategy_list (core_all choices))) S) rest r
+  pub accepts : Accepts (after (grouped g (done ++ strategy_list (core_all (order_of S) choices))) S) rest r
   pub shorter : length rest < length x
 
 -- ... or up to a `|`
@@ -70,7 +70,7 @@ pub record MoreBar (g : StrategyGroup) (done : List Strategy) (S : List ParserFr
   pub choices : Choices
   pub rest : List Token
   pub reads : ReadsMoreChoices choices Bar x rest
-  pub goes_on : Goes (after_bar g (done ++ strategy_list (core_all choices)) S) rest r
+  pub goes_on : Goes (after_bar g (done ++ strategy_list (core_all (order_of S) choices)) S) rest r
   pub shorter : length rest < length x
 
 abbrev pub MoreOf : StrategyGroup → List Strategy → List ParserFrame → List Token → Strategy → Type 0
@@ -81,7 +81,7 @@ pub record ListClosed (g : StrategyGroup) (S : List ParserFrame) (x : List Token
   pub choices : Choices
   pub rest : List Token
   pub reads : ReadsChoices choices (closing g) x rest
-  pub accepts : Accepts (after (grouped g (strategy_list (core_all choices))) S) rest r
+  pub accepts : Accepts (after (grouped g (strategy_list (core_all (order_of S) choices))) S) rest r
   pub shorter : length rest < length x
 
 pub record ListBar (g : StrategyGroup) (S : List ParserFrame) (x : List Token) (r : Strategy) : Type 0 where
@@ -89,7 +89,7 @@ pub record ListBar (g : StrategyGroup) (S : List ParserFrame) (x : List Token) (
   pub choices : Choices
   pub rest : List Token
   pub reads : ReadsSomeChoices (and_choice first choices) Bar x rest
-  pub goes_on : Goes (after_bar g (core first ∷ strategy_list (core_all choices)) S) rest r
+  pub goes_on : Goes (after_bar g (core (order_of S) first ∷ strategy_list (core_all (order_of S) choices)) S) rest r
   pub shorter : length rest < length x
 
 pub record EmptyBar (g : StrategyGroup) (S : List ParserFrame) (x : List Token) (r : Strategy) : Type 0 where
@@ -108,7 +108,7 @@ pub record Opened (F : StrategyFrame) (S : List ParserFrame) (x : List Token) (r
   pub ends_at : List Token
   pub opens : x ≡ ASign OpenRound ∷ inner
   pub reads : ReadsChoice choice inner ends_at
-  pub accepts : Accepts (in_frame (core choice) F S) ends_at r
+  pub accepts : Accepts (in_frame (core (order_of S) choice) F S) ends_at r
   pub shorter : length ends_at < length x
 
 pub record FoundNames (S : List ParserFrame) (x : List Token) (r : Strategy) : Type 0 where

@@ -13,6 +13,7 @@ use Rattle.strategy_tokens.specs.declared.token.Sign.TheVariants.{OpenRound, Clo
 use Rattle.strategy_parse.specs.declared.parser.state.ParserState.TheVariants.{Strategy as ToStrategy, FirstStrategy, Read, Used, Opening, Prim as AfterPrim, PrimOpen, PrimNamed, ScopeOpen, Pattern as ToPattern}
 use Rattle.strategy_parse.specs.declared.parser.state.ParserFrame.{ParserFrame}
 use Rattle.strategy_parse.specs.declared.parser.state.ParserFrame.TheVariants.{Strategy as ForStrategy, Pattern as ForPattern}
+use Rattle.strategy_parse.specs.declared.parser.state.Order.TheVariants.{Run}
 use Rattle.strategy_parse.specs.declared.parser.state.StrategyFrame.{StrategyFrame}
 use Rattle.strategy_parse.specs.declared.parser.state.StrategyFrame.TheVariants.{Operator as Operated, Rec, Child, Scope, Application, If, Then, Else, Where, Tail as SquareTail}
 use Rattle.strategy_parse.specs.declared.parser.state.PatternFrame.TheVariants.{Match, Build, Applied, Left as ClosureLeft, Right as ClosureRight, List as Patterns}
@@ -22,7 +23,7 @@ use Rattle.strategy_parse.specs.declared.parser.state.StrategyGroup.TheVariants.
 use Rattle.strategy_parse.specs.declared.parser.state.PatternGroup.{PatternGroup}
 use Rattle.strategy_parse.specs.declared.parser.state.PatternGroup.TheVariants.{Terms, Prim}
 use Rattle.strategy_tokens.specs.Marks.{is_mark, is_word}
-use Rattle.strategy_parse.specs.inside.Parser.{goes, stuck, begin, begin_sign, begin_word, begin_child, begin_pattern, after, after_choice, first_pattern, rec_name, prim_name, step}
+use Rattle.strategy_parse.specs.inside.Parser.{order_of, goes, stuck, begin, begin_sign, begin_word, begin_child, begin_pattern, after, after_choice, first_pattern, rec_name, prim_name, step}
 use Rattle.strategy_parse.specs.Grammar.{word_of, ReadsChoice, ReadsChoices}
 use Rattle.strategy_parse.specs.Written.{Choice, question, exclamation, application, identity, failure, operator, if_then, if_then_else, recursion, primitive, local, closure, closure_where, round, square, square_with_tail, name, call, call_with_terms, child, Choices, no_choices, and_choice}
 use Rattle.strategy_syntax.specs.Variables.{variables}
@@ -50,7 +51,7 @@ module _ (n : ℕ) (P : PrefixesTo n) where
   operated_found o S ts r le k =
       let a : Opened (Operated o) S ts r = opened (Operated o) S ts r le k in
       let la : length a.ends_at < length ts = a.shorter in
-      let end = only_mark CloseRound (goes (Read (operated o (core a.choice))) S) a.ends_at r a.accepts in
+      let end = only_mark CloseRound (goes (Read (operated o (core (order_of S) a.choice))) S) a.ends_at r a.accepts in
       let l : length a.ends_at ≡ suc (length end.0) = ap length end.1 in
       record { prefix = operator o a.choice; rest = end.0; reads = (ts, refl, (a.inner, a.opens, (a.ends_at, a.reads, end.1))); accepts = end.2; shorter = omega arith }
 
@@ -58,7 +59,7 @@ module _ (n : ℕ) (P : PrefixesTo n) where
   child_found i S ts r le k =
       let a : Opened (Child (suc i)) S ts r = opened (Child (suc i)) S ts r le k in
       let la : length a.ends_at < length ts = a.shorter in
-      let end = only_mark CloseRound (goes (Read (syntax.child (suc i) (core a.choice))) S) a.ends_at r a.accepts in
+      let end = only_mark CloseRound (goes (Read (syntax.child (suc i) (core (order_of S) a.choice))) S) a.ends_at r a.accepts in
       let l : length a.ends_at ≡ suc (length end.0) = ap length end.1 in
       record { prefix = child (suc i) a.choice; rest = end.0; reads = (omega arith, (ts, refl, (a.inner, a.opens, (a.ends_at, a.reads, end.1)))); accepts = end.2; shorter = omega arith }
 
@@ -67,7 +68,7 @@ module _ (n : ℕ) (P : PrefixesTo n) where
   rec_found S (Ident f ∷ ts) r le k =
       let a : Opened (Rec f) S ts r = opened (Rec f) S ts r (omega arith) k in
       let la : length a.ends_at < length ts = a.shorter in
-      let end = only_mark CloseRound (goes (Read (syntax.rec f (core a.choice))) S) a.ends_at r a.accepts in
+      let end = only_mark CloseRound (goes (Read (syntax.rec f (core (order_of S) a.choice))) S) a.ends_at r a.accepts in
       let l : length a.ends_at ≡ suc (length end.0) = ap length end.1 in
       record { prefix = recursion f a.choice; rest = end.0; reads = (Ident f ∷ ts, refl, (ts, refl, (a.inner, a.opens, (a.ends_at, a.reads, end.1)))); accepts = end.2; shorter = omega arith }
   rec_found S (Wildcard ∷ ts) r le k = absurd (cc)
@@ -128,16 +129,16 @@ module _ (n : ℕ) (P : PrefixesTo n) where
   if_found S ts r le k =
       let a : FoundChoice (ForStrategy If ∷ S) ts r = framed n P If S ts r le k in
       let la : length a.rest < length ts = a.shorter in
-      let then_at = only_word KThen (goes ToStrategy (ForStrategy (Then (core a.choice)) ∷ S)) a.rest r a.accepts in
+      let then_at = only_word KThen (goes ToStrategy (ForStrategy (Then (core (order_of S) a.choice)) ∷ S)) a.rest r a.accepts in
       let lt : length a.rest ≡ suc (length then_at.0) = ap length then_at.1 in
-      let b : FoundChoice (ForStrategy (Then (core a.choice)) ∷ S) then_at.0 r = framed n P (Then (core a.choice)) S then_at.0 r (omega arith) then_at.2 in
+      let b : FoundChoice (ForStrategy (Then (core (order_of S) a.choice)) ∷ S) then_at.0 r = framed n P (Then (core (order_of S) a.choice)) S then_at.0 r (omega arith) then_at.2 in
       let lb : length b.rest < length then_at.0 = b.shorter in
-      elim (at_word KElse (goes ToStrategy (ForStrategy (Else (core a.choice) (core b.choice)) ∷ S)) (λ t. if (is_word KEnd t) then goes (Read (syntax.guard (syntax.test (core a.choice)) (core b.choice) syntax.id)) S else stuck) b.rest r b.accepts) [
+      elim (at_word KElse (goes ToStrategy (ForStrategy (Else (core (order_of S) a.choice) (core (order_of S) b.choice)) ∷ S)) (λ t. if (is_word KEnd t) then goes (Read (syntax.guard (syntax.test (core (order_of S) a.choice)) (core (order_of S) b.choice) syntax.id)) S else stuck) b.rest r b.accepts) [
         | inl else_at ↦
             let l : length b.rest ≡ suc (length else_at.0) = ap length else_at.1 in
-            let c : FoundChoice (ForStrategy (Else (core a.choice) (core b.choice)) ∷ S) else_at.0 r = framed n P (Else (core a.choice) (core b.choice)) S else_at.0 r (omega arith) else_at.2 in
+            let c : FoundChoice (ForStrategy (Else (core (order_of S) a.choice) (core (order_of S) b.choice)) ∷ S) else_at.0 r = framed n P (Else (core (order_of S) a.choice) (core (order_of S) b.choice)) S else_at.0 r (omega arith) else_at.2 in
             let lc : length c.rest < length else_at.0 = c.shorter in
-            let end = only_word KEnd (goes (Read (syntax.guard (syntax.test (core a.choice)) (core b.choice) (core c.choice))) S) c.rest r c.accepts in
+            let end = only_word KEnd (goes (Read (syntax.guard (syntax.test (core (order_of S) a.choice)) (core (order_of S) b.choice) (core (order_of S) c.choice))) S) c.rest r c.accepts in
             let l' : length c.rest ≡ suc (length end.0) = ap length end.1 in
             record {
               prefix = if_then_else a.choice b.choice c.choice;
@@ -147,7 +148,7 @@ module _ (n : ℕ) (P : PrefixesTo n) where
               shorter = omega arith;
             }
         | inr other ↦
-            let end = only_word KEnd (goes (Read (syntax.guard (syntax.test (core a.choice)) (core b.choice) syntax.id)) S) b.rest r other in
+            let end = only_word KEnd (goes (Read (syntax.guard (syntax.test (core (order_of S) a.choice)) (core (order_of S) b.choice) syntax.id)) S) b.rest r other in
             let l : length b.rest ≡ suc (length end.0) = ap length end.1 in
             record {
               prefix = if_then a.choice b.choice;
@@ -176,9 +177,9 @@ module _ (n : ℕ) (P : PrefixesTo n) where
   application_found S ts r le k =
       let a : FoundChoice (ForStrategy Application ∷ S) ts r = framed n P Application S ts r le k in
       let la : length a.rest < length ts = a.shorter in
-      let greater = only_mark Greater (goes ToPattern (ForPattern (Applied (core a.choice)) ∷ S)) a.rest r a.accepts in
+      let greater = only_mark Greater (goes ToPattern (ForPattern (Applied (core (order_of S) a.choice)) ∷ S)) a.rest r a.accepts in
       let l : length a.rest ≡ suc (length greater.0) = ap length greater.1 in
-      let p : FoundPattern (ForPattern (Applied (core a.choice)) ∷ S) greater.0 r = pattern_at (ForPattern (Applied (core a.choice)) ∷ S) greater.0 r greater.2 in
+      let p : FoundPattern (ForPattern (Applied (core (order_of S) a.choice)) ∷ S) greater.0 r = pattern_at (ForPattern (Applied (core (order_of S) a.choice)) ∷ S) greater.0 r greater.2 in
       let lp : length p.rest < length greater.0 = p.shorter in
       record { prefix = application a.choice p.pattern; rest = p.rest; reads = (ts, refl, (a.rest, a.reads, (greater.0, greater.1, p.reads))); accepts = p.accepts; shorter = omega arith }
 
@@ -188,7 +189,7 @@ module _ (n : ℕ) (P : PrefixesTo n) where
       let lx : length xs.rest < length ts = xs.shorter in
       let a : FoundChoice (ForStrategy (Scope xs.names) ∷ S) xs.rest r = framed n P (Scope xs.names) S xs.rest r (omega arith) xs.accepts in
       let la : length a.rest < length xs.rest = a.shorter in
-      let end = only_mark CloseCurly (goes (Read (syntax.scope xs.names (core a.choice))) S) a.rest r a.accepts in
+      let end = only_mark CloseCurly (goes (Read (syntax.scope xs.names (core (order_of S) a.choice))) S) a.rest r a.accepts in
       let l : length a.rest ≡ suc (length end.0) = ap length end.1 in
       record { prefix = local xs.names a.choice; rest = end.0; reads = (ts, refl, (xs.rest, xs.reads, (a.rest, a.reads, end.1))); accepts = end.2; shorter = omega arith }
 
@@ -209,7 +210,7 @@ module _ (n : ℕ) (P : PrefixesTo n) where
             let lw : length q.rest ≡ suc (length where_at.0) = ap length where_at.1 in
             let a : FoundChoice (ForStrategy (Where p.pattern q.pattern) ∷ S) where_at.0 r = framed n P (Where p.pattern q.pattern) S where_at.0 r (omega arith) where_at.2 in
             let la : length a.rest < length where_at.0 = a.shorter in
-            let end = only_mark Backslash (goes (Read (syntax.scope (first_ones same_name [] (variables p.pattern)) (rewrite_where p.pattern q.pattern (core a.choice)))) S) a.rest r a.accepts in
+            let end = only_mark Backslash (goes (Read (syntax.scope (first_ones same_name [] (variables p.pattern)) (rewrite_where (order_of S) p.pattern q.pattern (core (order_of S) a.choice)))) S) a.rest r a.accepts in
             let l' : length a.rest ≡ suc (length end.0) = ap length end.1 in
             record {
               prefix = closure_where p.pattern q.pattern a.choice;
@@ -227,7 +228,7 @@ module _ (n : ℕ) (P : PrefixesTo n) where
         prefix = round found.choices;
         rest = found.rest;
         reads = (ts, refl, found.reads);
-        accepts = subst (λ l. Accepts (after (in_brackets l) S) found.rest r) (strategies_of-list (core_all found.choices)) found.accepts;
+        accepts = subst (λ l. Accepts (after (in_brackets l) S) found.rest r) (strategies_of-list (core_all (order_of S) found.choices)) found.accepts;
         shorter = omega arith;
       }
   round_found S ts r (inr (inl found)) = let refused = found.goes_on in absurd (cc)
@@ -240,26 +241,26 @@ module _ (n : ℕ) (P : PrefixesTo n) where
         prefix = square found.choices;
         rest = found.rest;
         reads = (ts, refl, found.reads);
-        accepts = subst (λ l. Accepts (after (syntax.congruence list l) S) found.rest r) (strategies_of-list (core_all found.choices)) found.accepts;
+        accepts = subst (λ l. Accepts (after (syntax.congruence list l) S) found.rest r) (strategies_of-list (core_all (order_of S) found.choices)) found.accepts;
         shorter = omega arith;
       }
   square_found S ts r le (inr (inl found)) =
       let l : length found.rest < length ts = found.shorter in
-      let done = core found.first ∷ strategy_list (core_all found.choices) in
-      let a : FoundChoice (ForStrategy (SquareTail (core found.first ∷ strategy_list (core_all found.choices))) ∷ S) found.rest r = framed n P (SquareTail (core found.first ∷ strategy_list (core_all found.choices))) S found.rest r (omega arith) found.goes_on in
+      let done = core (order_of S) found.first ∷ strategy_list (core_all (order_of S) found.choices) in
+      let a : FoundChoice (ForStrategy (SquareTail (core (order_of S) found.first ∷ strategy_list (core_all (order_of S) found.choices))) ∷ S) found.rest r = framed n P (SquareTail (core (order_of S) found.first ∷ strategy_list (core_all (order_of S) found.choices))) S found.rest r (omega arith) found.goes_on in
       let la : length a.rest < length found.rest = a.shorter in
-      let end = only_mark CloseSquare (goes (Read (syntax.tail_congruence (strategies_of (core found.first ∷ strategy_list (core_all found.choices))) (core a.choice))) S) a.rest r a.accepts in
+      let end = only_mark CloseSquare (goes (Read (syntax.tail_congruence (strategies_of (core (order_of S) found.first ∷ strategy_list (core_all (order_of S) found.choices))) (core (order_of S) a.choice))) S) a.rest r a.accepts in
       let l' : length a.rest ≡ suc (length end.0) = ap length end.1 in
       record {
         prefix = square_with_tail (and_choice found.first found.choices) a.choice;
         rest = end.0;
         reads = (ts, refl, (found.rest, found.reads, (a.rest, a.reads, end.1)));
-        accepts = subst (λ l. Accepts (after (syntax.tail_congruence (syntax.and_strategy (core found.first) l) (core a.choice)) S) end.0 r) (strategies_of-list (core_all found.choices)) end.2;
+        accepts = subst (λ l. Accepts (after (syntax.tail_congruence (syntax.and_strategy (core (order_of S) found.first) l) (core (order_of S) a.choice)) S) end.0 r) (strategies_of-list (core_all (order_of S) found.choices)) end.2;
         shorter = omega arith;
       }
   square_found S ts r le (inr (inr found)) = let refused = found.goes_on in absurd (cc)
 
-  terms_found : (f : Symbol) (cs : Choices) (S : List ParserFrame) (ts z y : List Token) (r : Strategy) → ts ≡ ASign OpenRound ∷ z → ReadsChoices cs Bar z y → length y < length z → Listed (Terms f (strategy_list (core_all cs))) S y r → FoundPrefix S (Ident f ∷ ts) r
+  terms_found : (f : Symbol) (cs : Choices) (S : List ParserFrame) (ts z y : List Token) (r : Strategy) → ts ≡ ASign OpenRound ∷ z → ReadsChoices cs Bar z y → length y < length z → Listed (Terms f (strategy_list (core_all (order_of S) cs))) S y r → FoundPrefix S (Ident f ∷ ts) r
   terms_found f cs S ts z y r e reads ly (inl found) =
       let l : length ts ≡ suc (length z) = ap length e in
       let lf : length found.rest < length y = found.shorter in
@@ -267,8 +268,8 @@ module _ (n : ℕ) (P : PrefixesTo n) where
         prefix = call_with_terms f cs found.patterns;
         rest = found.rest;
         reads = (ts, refl, (z, e, (y, reads, found.reads)));
-        accepts = subst (λ l. Accepts (after (syntax.uses f (core_all cs) l) S) found.rest r) (patterns_of-list found.patterns)
-            (subst (λ l. Accepts (after (syntax.uses f l (patterns_of (pattern_list found.patterns))) S) found.rest r) (strategies_of-list (core_all cs)) found.accepts);
+        accepts = subst (λ l. Accepts (after (syntax.uses f (core_all (order_of S) cs) l) S) found.rest r) (patterns_of-list found.patterns)
+            (subst (λ l. Accepts (after (syntax.uses f l (patterns_of (pattern_list found.patterns))) S) found.rest r) (strategies_of-list (core_all (order_of S) cs)) found.accepts);
         shorter = omega arith;
       }
   terms_found f cs S ts z y r e reads ly (inr (same, found)) = absurd (cc)
@@ -284,11 +285,11 @@ module _ (n : ℕ) (P : PrefixesTo n) where
         prefix = call f found.choices;
         rest = found.rest;
         reads = (ts, refl, (z, e, found.reads));
-        accepts = subst (λ l. Accepts (after (syntax.uses f l no_patterns) S) found.rest r) (strategies_of-list (core_all found.choices)) found.accepts;
+        accepts = subst (λ l. Accepts (after (syntax.uses f l no_patterns) S) found.rest r) (strategies_of-list (core_all (order_of S) found.choices)) found.accepts;
         shorter = omega arith;
       }
   call_found f S ts z r e (inr (inl found)) =
-      terms_found f (and_choice found.first found.choices) S ts z found.rest r e found.reads found.shorter (patterns_at (Terms f (core found.first ∷ strategy_list (core_all found.choices))) S found.rest r found.goes_on)
+      terms_found f (and_choice found.first found.choices) S ts z found.rest r e found.reads found.shorter (patterns_at (Terms f (core (order_of S) found.first ∷ strategy_list (core_all (order_of S) found.choices))) S found.rest r found.goes_on)
   call_found f S ts z r e (inr (inr found)) =
       terms_found f no_choices S ts z found.rest r e found.reads found.shorter (patterns_at (Terms f []) S found.rest r found.goes_on)
 
@@ -354,8 +355,8 @@ ended s [] r k = (refl, (cc))
 ended s (t ∷ ts) r k = absurd (cc)
 
 -- the whole text
-pub read_all : (x : List Token) (r : Strategy) → Accepts (begin []) x r → (a : Choice) × ReadsChoice a x [] × (core a ≡ r)
+pub read_all : (x : List Token) (r : Strategy) → Accepts (begin []) x r → (a : Choice) × ReadsChoice a x [] × (core Run a ≡ r)
 read_all x r k =
     let a : FoundChoice [] x r = choice_at [] x r (λ s t. refl) k in
-    let end = ended (core a.choice) a.rest r a.accepts in
+    let end = ended (core Run a.choice) a.rest r a.accepts in
     (a.choice, subst (λ l. ReadsChoice a.choice x l) end.0 a.reads, end.1)

@@ -9,6 +9,7 @@ use Rattle.strategy_tokens.specs.declared.token.Token.TheVariants.{Bad}
 use Rattle.strategy_parse.specs.declared.parser.state.ParserState.{ParserState}
 use Rattle.strategy_parse.specs.declared.parser.state.ParserState.TheVariants.{Strategy as ToStrategy, FirstStrategy, Read, Used, Opening, Rec as AfterRec, Prim as AfterPrim, PrimOpen, PrimNamed, ScopeOpen, ScopeComma, ScopeNamed, Pattern as ToPattern, FirstPattern, Named, Base, Whole}
 use Rattle.strategy_parse.specs.declared.parser.state.ParserFrame.{ParserFrame}
+use Rattle.strategy_parse.specs.declared.parser.state.Order.TheVariants.{Run}
 use Rattle.strategy_parse.specs.Core.{core}
 use Rattle.strategy_parse.specs.inside.Parser.{goes, ends, stuck, step, front, front_of}
 use Rattle.strategy_parse.specs.Stuck.{Begin, BeginNone, StuckAt}
@@ -112,13 +113,13 @@ begins taken h = (h.more, h.form, front-gives (taken ++ h.more) h.form [] (ap (�
 halts_none : (b : Bool) (taken : List Token) (t : Token) (ts : List Token) → Halts ToStrategy taken b (t ∷ ts) → BeginNone (taken ++ t ∷ [])
 halts_none b taken t ts h rest s (a, reads, is) =
     non b h (ap (read_from ToStrategy) (sym (append_assoc taken (t ∷ []) rest)) ∙ choice-front a ((taken ++ t ∷ []) ++ rest) [] reads tt) where
-      non : (b : Bool) → Halts ToStrategy taken b (t ∷ ts) → read_from ToStrategy (taken ++ t ∷ rest) ≡ Some (core a, []) → ⊥
+      non : (b : Bool) → Halts ToStrategy taken b (t ∷ ts) → read_from ToStrategy (taken ++ t ∷ rest) ≡ Some (core Run a, []) → ⊥
       non true k e =
-          let both : ◌≡◌ {A = Option (Strategy × List Token)} (Some (core a, [])) (Some (k.form, t ∷ rest)) = sym e ∙ k.before rest in
-          let pair : ◌≡◌ {A = Strategy × List Token} (core a, []) (k.form, t ∷ rest) = cc in
+          let both : ◌≡◌ {A = Option (Strategy × List Token)} (Some (core Run a, [])) (Some (k.form, t ∷ rest)) = sym e ∙ k.before rest in
+          let pair : ◌≡◌ {A = Strategy × List Token} (core Run a, []) (k.form, t ∷ rest) = cc in
           let none : ◌≡◌ {A = List Token} [] (t ∷ rest) = ap (λ (q : Strategy × List Token). q.1) pair in
           cc
-      non false k e = let none : ◌≡◌ {A = Option (Strategy × List Token)} None (Some (core a, [])) = sym (k rest) ∙ e in cc
+      non false k e = let none : ◌≡◌ {A = Option (Strategy × List Token)} None (Some (core Run a, [])) = sym (k rest) ∙ e in cc
 
 pub stuck-at : (x : List Token) (b : Bool) (y : List Token) → Passed ToStrategy x b y → (length y == 0) ≡ false → StuckAt x (length x - length y)
 stuck-at x b [] h some = let non : true ≡ false = some in absurd (cc)

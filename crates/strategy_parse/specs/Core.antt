@@ -7,6 +7,8 @@ use Rattle.strategy_syntax.specs.Modules as syntax
 use Rattle.strategy_syntax.specs.Lists.{first_ones}
 use Rattle.strategy_syntax.specs.Variables.{variables}
 use Rattle.strategy_names.specs.Free.{free_variables}
+use Rattle.strategy_parse.specs.declared.parser.state.Order.{Order}
+use Rattle.strategy_parse.specs.declared.parser.state.Order.TheVariants.{Run, Written}
 use Rattle.strategy_parse.specs.declared.parser.state.Operator.{Operator}
 use Rattle.strategy_parse.specs.declared.parser.state.Operator.TheVariants.{All, One, Some as SomeChild, Not, Where, Test}
 use Rattle.strategy_parse.specs.Written.{Choice, sequence, left_choice, guarded_choice, Seq, last, before, Arrow, arrow, Prefix, question, exclamation, application, identity, failure, operator, if_then, if_then_else, recursion, primitive, local, closure, closure_where, round, square, square_with_tail, name, call, call_with_terms, child, Choices, no_choices, and_choice, Sorts, no_sorts, and_sort, Declaration, constant, function, Header, Defined, definition, rule, rule_where, SignaturePart, sorts, constructors, Section, signature, definitions}
@@ -33,51 +35,60 @@ in_brackets (and_strategy s no_strategies) = s
 in_brackets (and_strategy s (and_strategy r ss)) =
     congruence tuple (and_strategy s (and_strategy r ss))
 
--- the action of a rule and of a closure
+-- the action of a rule and of a closure without a condition
 abbrev pub rewrite : Pattern → Pattern → Strategy
 rewrite p q = seq (matches p) (builds q)
 
-abbrev pub rewrite_where : Pattern → Pattern → Strategy → Strategy
-rewrite_where p q s = seq (matches p) (seq (test s) (builds q))
+-- Two parts in the order in which they are run; in the text the second one stands first.
+abbrev pub ordered : Order → Strategy → Strategy → Strategy
+ordered Run r s = seq r s
+ordered Written r s = seq s r
 
-abbrev mutual
-  pub core : Choice → Strategy
-  core (sequence a) = core_seq a
-  core (left_choice a b) = guard (core_seq a) id (core b)
-  core (guarded_choice a b c) = guard (core_seq a) (core_seq b) (core c)
+-- The core form has its parts in the order in which they are run. With its parts in the order of the
+-- text it means something else, and only says where a variable first stands free.
+module _ (o : Order) where
+  abbrev pub rewrite_where : Pattern → Pattern → Strategy → Strategy
+  rewrite_where p q s = seq (matches p) (ordered o (test s) (builds q))
 
-  pub core_seq : Seq → Strategy
-  core_seq (last a) = core_arrow a
-  core_seq (before a b) = seq (core_arrow a) (core_seq b)
+  abbrev mutual
+    pub core : Choice → Strategy
+    core (sequence a) = core_seq a
+    core (left_choice a b) = guard (core_seq a) id (core b)
+    core (guarded_choice a b c) = guard (core_seq a) (core_seq b) (core c)
 
-  pub core_arrow : Arrow → Strategy
-  core_arrow (arrow a ps) = then_matched (core_prefix a) ps
+    pub core_seq : Seq → Strategy
+    core_seq (last a) = core_arrow a
+    core_seq (before a b) = seq (core_arrow a) (core_seq b)
 
-  pub core_prefix : Prefix → Strategy
-  core_prefix (question p) = matches p
-  core_prefix (exclamation p) = builds p
-  core_prefix (application a p) = seq (builds p) (core a)
-  core_prefix identity = id
-  core_prefix failure = fail
-  core_prefix (operator o a) = operated o (core a)
-  core_prefix (if_then a b) = guard (test (core a)) (core b) id
-  core_prefix (if_then_else a b c) = guard (test (core a)) (core b) (core c)
-  core_prefix (recursion f a) = rec f (core a)
-  core_prefix (primitive n ps) = prim n ps
-  core_prefix (local fs a) = scope fs (core a)
-  core_prefix (closure p q) = scope (first_ones same_name [] (variables p)) (rewrite p q)
-  core_prefix (closure_where p q a) = scope (first_ones same_name [] (variables p)) (rewrite_where p q (core a))
-  core_prefix (round cs) = in_brackets (core_all cs)
-  core_prefix (square cs) = congruence list (core_all cs)
-  core_prefix (square_with_tail cs a) = tail_congruence (core_all cs) (core a)
-  core_prefix (name f) = uses f no_strategies no_patterns
-  core_prefix (call f cs) = uses f (core_all cs) no_patterns
-  core_prefix (call_with_terms f cs ps) = uses f (core_all cs) ps
-  core_prefix (child i a) = nth_child i (core a)
+    pub core_arrow : Arrow → Strategy
+    core_arrow (arrow a ps) = then_matched (core_prefix a) ps
 
-  pub core_all : Choices → Strategies
-  core_all no_choices = no_strategies
-  core_all (and_choice a cs) = and_strategy (core a) (core_all cs)
+    pub core_prefix : Prefix → Strategy
+    core_prefix (question p) = matches p
+    core_prefix (exclamation p) = builds p
+    core_prefix (application a p) = ordered o (builds p) (core a)
+    core_prefix identity = id
+    core_prefix failure = fail
+    core_prefix (operator o a) = operated o (core a)
+    core_prefix (if_then a b) = guard (test (core a)) (core b) id
+    core_prefix (if_then_else a b c) = guard (test (core a)) (core b) (core c)
+    core_prefix (recursion f a) = rec f (core a)
+    core_prefix (primitive n ps) = prim n ps
+    core_prefix (local fs a) = scope fs (core a)
+    core_prefix (closure p q) = scope (first_ones same_name [] (variables p)) (rewrite p q)
+    core_prefix (closure_where p q a) =
+        scope (first_ones same_name [] (variables p)) (rewrite_where p q (core a))
+    core_prefix (round cs) = in_brackets (core_all cs)
+    core_prefix (square cs) = congruence list (core_all cs)
+    core_prefix (square_with_tail cs a) = tail_congruence (core_all cs) (core a)
+    core_prefix (name f) = uses f no_strategies no_patterns
+    core_prefix (call f cs) = uses f (core_all cs) no_patterns
+    core_prefix (call_with_terms f cs ps) = uses f (core_all cs) ps
+    core_prefix (child i a) = nth_child i (core a)
+
+    pub core_all : Choices → Strategies
+    core_all no_choices = no_strategies
+    core_all (and_choice a cs) = and_strategy (core a) (core_all cs)
 
 -- ---- modules
 
@@ -99,16 +110,17 @@ defined h s = record {
   body = s;
 }
 
--- the strategy in a scope of the variables that are free in it, except for these parameters
-abbrev pub closed : List Symbol → Strategy → Strategy
-closed parameters s = scope (free_variables parameters s) s
+-- The strategy in a scope of the variables that are free in it, except for these parameters, in the
+-- order of the text.
+abbrev pub closed : List Symbol → (Order → Strategy) → Strategy
+closed parameters s = scope (free_variables parameters (s Written)) (s Run)
 
 -- A rule is a definition whose body is a scope of the variables free in it, except for its term
 -- parameters.
 abbrev pub core_definition : Defined → syntax.Definition
-core_definition (definition h a) = defined h (core a)
-core_definition (rule h p q) = defined h (closed h.terms (rewrite p q))
-core_definition (rule_where h p q a) = defined h (closed h.terms (rewrite_where p q (core a)))
+core_definition (definition h a) = defined h (core Run a)
+core_definition (rule h p q) = defined h (closed h.terms (λ o. rewrite p q))
+core_definition (rule_where h p q a) = defined h (closed h.terms (λ o. rewrite_where o p q (core o a)))
 
 abbrev pub declared_in_part : SignaturePart → List syntax.Constructor
 declared_in_part (sorts ss) = []

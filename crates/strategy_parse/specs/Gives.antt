@@ -3,6 +3,7 @@ use Rattle.std.specs.Prelude.{◌≡◌, List, [], ◌∷◌}
 use Rattle.strategy_syntax.specs.Syntax.{Pattern, Strategy}
 use Rattle.strategy_syntax.specs.Modules as syntax
 use Rattle.strategy_tokens.specs.declared.token.Token.{Token}
+use Rattle.strategy_parse.specs.declared.parser.state.Order.TheVariants.{Run}
 use Rattle.strategy_parse.specs.Written.{Choice, Declaration, Defined, Section}
 use Rattle.strategy_parse.specs.Grammar.{ReadsChoice, ReadsPattern}
 use Rattle.strategy_parse.specs.GrammarModules.{ReadsDeclaration, ReadsDefined, ReadsModule}
@@ -10,7 +11,7 @@ use Rattle.strategy_parse.specs.Core.{core, core_definition, core_module, declar
 
 -- the tokens are a choice whose core form is the strategy
 abbrev pub GivesStrategy : List Token → Strategy → Type 0
-GivesStrategy ts s = (a : Choice) × ReadsChoice a ts [] × (core a ≡ s)
+GivesStrategy ts s = (a : Choice) × ReadsChoice a ts [] × (core Run a ≡ s)
 
 -- the tokens are sections whose core form is the module
 abbrev pub GivesModule : List Token → syntax.Module → Type 0

@@ -163,9 +163,13 @@ strategies f(|x,y) = !x != strategies f(x,y) = !x
 strategies f(a|x) = a; !x g = f(f|g) == strategies f(a|x) = (a; !x) g = f(f()|g)
 rules P : F(x,y) -> z where <add> (x,y) => z == rules P = {x,y,z: ?F(x,y); (test((!(x,y); add); ?z); !z)}
 rules R(s|y) : x -> (y,x) S : a@_ -> a == rules R(s|y) = {x: ?x; !(y,x)} S = {a: ?a@_; !a}
-rules R : x -> y where <f(!u)> w == rules R = {x,w,u,y: ?x; (test(!w; f(!u)); !y)}
+rules R : F(x) -> G(z,y) where <f> x => y; <g> y => z == rules R = {x,z,y: ?F(x); (test(((!x; f); ?y); ((!y; g); ?z)); !G(z,y))}
+rules R : F(x) -> G(z,y) where <f> x => y; <g> y => z != rules R = {x,y,z: ?F(x); (test(((!x; f); ?y); ((!y; g); ?z)); !G(z,y))}
+rules R : x -> y where <f(!u)> w == rules R = {x,y,u,w: ?x; (test(!w; f(!u)); !y)}
+rules R : x -> y where <f(!u)> w != rules R = {x,w,u,y: ?x; (test(!w; f(!u)); !y)}
 rules R : x -> x where {y: ?y; !z} == rules R = {x,z: ?x; (test({y: ?y; !z}); !x)}
-rules R : x -> x where \ y -> C(y,z) where ?v \ == rules R = {x,v,z: ?x; (test({y: ?y; (test(?v); !C(y,z))}); !x)}
+rules R : x -> x where \ y -> C(y,z) where <?v> w \ == rules R = {x,z,v,w: ?x; (test({y: ?y; (test(!w; ?v); !C(y,z))}); !x)}
+rules R : x -> x where \ y -> C(y,z) where <?v> w \ != rules R = {x,w,v,z: ?x; (test({y: ?y; (test(!w; ?v); !C(y,z))}); !x)}
 rules R : 1 -> "a" == rules R = {: ?1; !"a"}
 strategies try(s) = s <+ id map(s) = [] <+ [s | map(s)] == rules try(s) = s < id + id map(s) = [] < id + [s|map(s())]
 "#;

@@ -3,6 +3,7 @@ use Rattle.std.specs.Prelude.{◌≡◌, ◌||◌, Bool, false, List, [], ◌∷
 use Rattle.strategy_syntax.specs.Syntax.{Strategy}
 use Rattle.strategy_tokens.specs.declared.token.Token.{Token}
 use Rattle.strategy_tokens.specs.declared.token.Sign.TheVariants.{OpenRound, OpenCurly, Semicolon, FatArrow, Less, LeftChoice, At}
+use Rattle.strategy_parse.specs.declared.parser.state.Order.TheVariants.{Run}
 use Rattle.strategy_parse.specs.Written.{Choice}
 use Rattle.strategy_parse.specs.Grammar.{ReadsChoice}
 use Rattle.strategy_parse.specs.Core.{core}
@@ -21,4 +22,4 @@ Stops (t ∷ ts) = goes_on t ≡ false
 
 -- x begins with a choice whose core form is the strategy, and y is the rest
 abbrev pub FrontGives : List Token → Strategy → List Token → Type 0
-FrontGives x s y = (a : Choice) × ReadsChoice a x y × (core a ≡ s)
+FrontGives x s y = (a : Choice) × ReadsChoice a x y × (core Run a ≡ s)

@@ -14,13 +14,15 @@ use Rattle.strategy_tokens.specs.declared.token.Sign.TheVariants.{OpenRound, Clo
 use Rattle.strategy_parse.specs.declared.parser.state.ParserState.{ParserState}
 use Rattle.strategy_parse.specs.declared.parser.state.ParserState.TheVariants.{Strategy as ToStrategy, FirstStrategy, Read, Used, Opening, Rec as AfterRec, Prim as AfterPrim, PrimOpen, PrimNamed, ScopeOpen, ScopeComma, ScopeNamed, Pattern as ToPattern, FirstPattern, Named, Base, Whole}
 use Rattle.strategy_parse.specs.declared.parser.state.ParserFrame.{ParserFrame}
-use Rattle.strategy_parse.specs.declared.parser.state.ParserFrame.TheVariants.{Operand, At, Strategy as ForStrategy, Pattern as ForPattern}
+use Rattle.strategy_parse.specs.declared.parser.state.ParserFrame.TheVariants.{InText, Operand, At, Strategy as ForStrategy, Pattern as ForPattern}
 use Rattle.strategy_parse.specs.declared.parser.state.Infix.{Infix}
 use Rattle.strategy_parse.specs.declared.parser.state.Infix.TheVariants.{Before, Guarded, Otherwise}
 use Rattle.strategy_parse.specs.declared.parser.state.StrategyFrame.{StrategyFrame}
 use Rattle.strategy_parse.specs.declared.parser.state.StrategyFrame.TheVariants.{Operator as Operated, Rec, Child, Scope, Application, If, Then, Else, Where, List as Strategies, Tail as SquareTail}
 use Rattle.strategy_parse.specs.declared.parser.state.PatternFrame.{PatternFrame}
 use Rattle.strategy_parse.specs.declared.parser.state.PatternFrame.TheVariants.{Match, Build, Applied, Matched, Left as ClosureLeft, Right as ClosureRight, List as Patterns, Tail as PatternTail}
+use Rattle.strategy_parse.specs.declared.parser.state.Order.{Order}
+use Rattle.strategy_parse.specs.declared.parser.state.Order.TheVariants.{Run, Written}
 use Rattle.strategy_parse.specs.declared.parser.state.Operator.{Operator}
 use Rattle.strategy_parse.specs.declared.parser.state.Operator.TheVariants.{All, One, Some as SomeChild, Not, Where as WhereOf, Test}
 use Rattle.strategy_parse.specs.declared.parser.state.StrategyGroup.{StrategyGroup}
@@ -32,7 +34,7 @@ use Rattle.strategy_parse.specs.declared.parser.state.Effect.TheVariants.{Goes, 
 use Rattle.strategy_tokens.specs.Marks.{is_mark, is_word}
 use Rattle.strategy_syntax.specs.Variables.{variables}
 use Rattle.strategy_syntax.specs.Lists.{first_ones}
-use Rattle.strategy_parse.specs.Core.{operated, in_brackets, rewrite, rewrite_where}
+use Rattle.strategy_parse.specs.Core.{operated, in_brackets, ordered, rewrite, rewrite_where}
 
 -- The effect of a token: it is read, or a whole strategy ended before it, or nothing continues with
 -- it.
@@ -44,6 +46,18 @@ pub data Next : Type 0 where
 abbrev pub leads : Effect → List ParserFrame → Next
 leads (Goes q) S = goes q S
 leads (Ends s) S = ends s
+
+-- ---- the order of parts
+
+-- the order that the outermost open form asks for, or else this one
+abbrev pub order_below : Order → List ParserFrame → Order
+order_below o [] = o
+order_below o (InText ∷ S) = order_below Written S
+order_below o (F ∷ S) = order_below Run S
+
+-- the order in which parts of forms are put together
+abbrev pub order_of : List ParserFrame → Order
+order_of S = order_below Run S
 
 -- ---- beginnings
 
@@ -158,7 +172,7 @@ in_frame s (Else a b) S t =
     if (is_word KEnd t) then goes (Read (syntax.guard (syntax.test a) b s)) S else stuck
 in_frame s (Where p q) S t =
     if (is_mark Backslash t)
-    then goes (Read (syntax.scope (first_ones same_name [] (variables p)) (rewrite_where p q s))) S else stuck
+    then goes (Read (syntax.scope (first_ones same_name [] (variables p)) (rewrite_where (order_of S) p q s))) S else stuck
 in_frame s (Strategies g done) S t = after_element g (done ++ s ∷ []) S t
 in_frame s (SquareTail done) S t =
     if (is_mark CloseSquare t)
@@ -169,6 +183,7 @@ abbrev pub after_choice : Strategy → List ParserFrame → Token → Next
 after_choice s (Operand Otherwise b ∷ (Operand Guarded a ∷ S)) t =
     after_choice (syntax.guard a b s) S t
 after_choice s [] t = ends s
+after_choice s (InText ∷ S) t = ends s
 after_choice s (ForStrategy F ∷ S) t = in_frame s F S t
 after_choice s (F ∷ S) t = stuck
 
@@ -228,7 +243,7 @@ after_one g ps S t =
 abbrev pub pattern_in_frame : Pattern → PatternFrame → List ParserFrame → Token → Next
 pattern_in_frame p Match S t = after (syntax.matches p) S t
 pattern_in_frame p Build S t = after (syntax.builds p) S t
-pattern_in_frame p (Applied s) S t = after (syntax.seq (syntax.builds p) s) S t
+pattern_in_frame p (Applied s) S t = after (ordered (order_of S) (syntax.builds p) s) S t
 pattern_in_frame p (Matched s) S t = after (syntax.seq s (syntax.matches p)) S t
 pattern_in_frame p ClosureLeft S t =
     if (is_mark RightArrow t) then goes ToPattern (ForPattern (ClosureRight p) ∷ S) else stuck

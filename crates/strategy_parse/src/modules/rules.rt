@@ -1,23 +1,26 @@
 //! Rules, which are definitions whose body is a scope of their variables.
 
-ghost use Rattle.std.specs.Prelude.{◌≡◌, List, IfOk, Err};
-ghost use Rattle.strategy_parse.specs.Core.{closed, core_definition, defined};
+ghost use Rattle.std.specs.Prelude.{◌≡◌, ◌-◌, List, [], length, take, IfOk, Err};
+ghost use Rattle.strategy_parse.specs.Core.{closed, core, core_definition, defined, rewrite_where};
+ghost use Rattle.strategy_parse.specs.Grammar.{ReadsChoice};
+ghost use Rattle.strategy_parse.specs.declared.parser.state.Order.TheVariants.{Written};
+ghost use Rattle.strategy_names.specs.Free.{free_variables};
 ghost use Rattle.strategy_parse.specs.inside.Definitions.{DefinitionEnds, header_of, ReadsRule, RuleGives};
 ghost use Rattle.strategy_parse.specs.inside.ModuleFronts.{make_header};
-ghost use Rattle.strategy_parse.specs.Written.{Defined};
+ghost use Rattle.strategy_parse.specs.Written.{Choice, Defined};
 ghost use Rattle.strategy_tokens.specs.declared.token.Token.{Token};
 
 use crate::modules::headers::Header;
 use crate::modules::tokens::{after_word, expect_mark};
 use crate::parser::{
-    ItemList, SyntaxFault, make_rewrite, make_rewrite_where, make_scope, read_pattern,
-    read_strategy,
+    ItemList, Order, SyntaxFault, make_rewrite, make_rewrite_where, make_scope, read_in_text,
+    read_pattern, read_strategy,
 };
 use std::alloc::Global;
-use strategy_names::free_names;
-use strategy_syntax::{Definition, Strategy};
+use strategy_names::{free_names, rule_names};
+use strategy_syntax::{Definition, Pattern, Strategy};
 use strategy_tokens::{Keyword, Sign, Token};
-use term_core::NoMemory;
+use term_core::{Name, NoMemory};
 
 /// The rule with this header, whose patterns are at the start of the tokens, and the rest.
 pub fn read_rule<'a>(
@@ -70,14 +73,45 @@ fn read_body<'a>(
         return Ok((body, left));
     };
     let (condition, later) = read_strategy(alloc, rest)?;
-    let action = make_rewrite_where(alloc, before, after, condition)?;
-    let body = close(alloc, header, action)?;
+    let names = names_in_text(alloc, header, &before, &after, before_rest(rest, later))?;
+    let action = make_rewrite_where(alloc, Order::Run, before, after, condition)?;
+    let body = make_scope(alloc, ItemList::from_vec(names), action)?;
     Ok((body, later))
 }
 
-// The action of a rule in a scope of its free variables, except for the term parameters.
+// The tokens before `rest`, which are the last of them.
+fn before_rest<'a>(tokens: &'a [Token], rest: &[Token]) -> &'a [Token]
+    ensures { result.now ≡ take (length tokens.now - length rest.now) tokens.now }
+{
+    let count = tokens.len().saturating_sub(rest.len());
+    &tokens[..count]
+}
+
+// The variables of a rule in the order in which they first stand free in the text, except for the
+// term parameters. The core form of the condition may have another order, so its tokens are read
+// once more.
+fn names_in_text(
+    alloc: Global,
+    header: &Header,
+    left: &Pattern,
+    right: &Pattern,
+    condition: &[Token],
+) -> Result<Vec<Name>, SyntaxFault>
+    ensures only { IfOk result (λ names. (u : Choice) → ReadsChoice u condition.now []
+        → names.items ≡ free_variables header.now.terms
+        (rewrite_where Written left.now right.now (core Written u))) }
+    ensures none { result ≡ Err SyntaxFault.Syntax → (u : Choice) → ReadsChoice u condition.now []
+        → ⊥ }
+{
+    let strategy = read_in_text(alloc, condition)?;
+    let names = rule_names(alloc, header.terms.as_slice(), left, right, &strategy)?;
+    Ok(names)
+}
+
+// The action of a rule without a condition in a scope of its free variables, except for the term
+// parameters.
 fn close(alloc: Global, header: &Header, action: Strategy) -> Result<Strategy, NoMemory>
-    ensures { IfOk result (λ made. made ≡ closed header.now.terms action) }
+    ensures { IfOk result (λ made. made ≡ closed header.now.terms (λ o. action)) }
 {
     match free_names(alloc, header.terms.as_slice(), &action) {
         Ok(names) => make_scope(alloc, ItemList::from_vec(names), action),

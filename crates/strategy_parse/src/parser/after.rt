@@ -143,6 +143,7 @@ fn leave_choice(
 {
     match stack.pop() {
         Some(ParserFrame::Strategy(frame)) => in_frame(alloc, strategy, frame, stack, token),
+        Some(ParserFrame::InText) => Ok(Effect::Ends(strategy)),
         Some(other) => {
             drop(other);
             drop(strategy);
@@ -200,7 +201,8 @@ fn in_frame(
         }
         StrategyFrame::Where(left, right) => {
             expect(token, Sign::Backslash)?;
-            Ok(Effect::Goes(ParserState::Read(make_closure_where(alloc, left, right, strategy)?)))
+            let whole = make_closure_where(alloc, stack.order(), left, right, strategy)?;
+            Ok(Effect::Goes(ParserState::Read(whole)))
         }
         StrategyFrame::List(group, done) => {
             let next = strategy.place().next();

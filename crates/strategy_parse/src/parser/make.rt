@@ -4,13 +4,13 @@ ghost use Rattle.std.specs.Prelude.{◌≡◌, [], IfOk};
 ghost use Rattle.strategy_syntax.specs.Lists.{first_ones};
 ghost use Rattle.strategy_syntax.specs.Syntax as syntax;
 ghost use Rattle.strategy_syntax.specs.Variables.{variables};
-ghost use Rattle.strategy_parse.specs.Core.{operated, rewrite, rewrite_where};
+ghost use Rattle.strategy_parse.specs.Core.{operated, ordered, rewrite, rewrite_where};
 ghost use Rattle.term_core.specs.Tree.{same_name};
 
 use crate::parser::closure::scope_of;
 use crate::parser::group::first_strategy_place;
 use crate::parser::lists::ItemList;
-use crate::parser::state::Operator;
+use crate::parser::state::{Operator, Order};
 use std::alloc::Global;
 use strategy_syntax::{Pattern, Strategy, StrategyForm};
 use term_core::{Name, NoMemory};
@@ -54,16 +54,32 @@ pub fn make_seq(alloc: Global, first: Strategy, second: Strategy) -> Result<Stra
     Ok(Strategy::new(StrategyForm::Seq(parts)).at(place))
 }
 
+// Two strategies that are run one after the other, but stand in the text the other way round.
+fn make_ordered(
+    alloc: Global,
+    order: Order,
+    first: Strategy,
+    second: Strategy,
+) -> Result<Strategy, NoMemory>
+    ensures { IfOk result (λ made. made ≡ ordered order first second) }
+{
+    match order {
+        Order::Run => make_seq(alloc, first, second),
+        Order::Written => make_seq(alloc, second, first),
+    }
+}
+
 /// The core form of `< s > p`.
 pub fn make_applied(
     alloc: Global,
+    order: Order,
     strategy: Strategy,
     pattern: Pattern,
 ) -> Result<Strategy, NoMemory>
-    ensures { IfOk result (λ made. made ≡ syntax.seq (syntax.builds pattern) strategy) }
+    ensures { IfOk result (λ made. made ≡ ordered order (syntax.builds pattern) strategy) }
 {
     let place = strategy.place().begun(1).to(pattern.place());
-    Ok(make_seq(alloc, make_build(pattern), strategy)?.at(place))
+    Ok(make_ordered(alloc, order, make_build(pattern), strategy)?.at(place))
 }
 
 /// `s1 < s2 + s3`, from the first token of `s1` to the last one of `s3`.
@@ -199,16 +215,17 @@ pub fn make_rewrite(alloc: Global, left: Pattern, right: Pattern) -> Result<Stra
 /// The core form of a rule with a condition.
 pub fn make_rewrite_where(
     alloc: Global,
+    order: Order,
     left: Pattern,
     right: Pattern,
     condition: Strategy,
 ) -> Result<Strategy, NoMemory>
-    ensures { IfOk result (λ made. made ≡ rewrite_where left right condition) }
+    ensures { IfOk result (λ made. made ≡ rewrite_where order left right condition) }
 {
     // the condition comes last in the text
     let place = right.place().to(condition.place());
     let condition = make_test(alloc, condition)?;
-    let rest = make_seq(alloc, condition, make_build(right))?.at(place);
+    let rest = make_ordered(alloc, order, condition, make_build(right))?.at(place);
     make_seq(alloc, make_match(left), rest)
 }
 
@@ -226,16 +243,17 @@ pub fn make_closure(alloc: Global, left: Pattern, right: Pattern) -> Result<Stra
 /// `\ l -> r where s \`
 pub fn make_closure_where(
     alloc: Global,
+    order: Order,
     left: Pattern,
     right: Pattern,
     condition: Strategy,
 ) -> Result<Strategy, NoMemory>
     ensures { IfOk result (λ made. made ≡ syntax.scope
-        (first_ones same_name [] (variables left)) (rewrite_where left right condition)) }
+        (first_ones same_name [] (variables left)) (rewrite_where order left right condition)) }
 {
     match scope_of(alloc, &left) {
         Ok(names) => {
-            let body = make_rewrite_where(alloc, left, right, condition)?;
+            let body = make_rewrite_where(alloc, order, left, right, condition)?;
             let place = body.place().begun(1).closed();
             Ok(make_scope(alloc, names, body)?.at(place))
         }

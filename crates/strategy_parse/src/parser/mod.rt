@@ -22,5 +22,6 @@ mod stuck;
 pub use fault::SyntaxFault;
 pub use lists::ItemList;
 pub use make::{make_rewrite, make_rewrite_where, make_scope};
-pub use run::{read_pattern, read_strategy};
+pub use run::{read_in_text, read_pattern, read_strategy};
+pub use state::Order;
 pub use stuck::{first_stuck, pass_pattern, pass_strategy};

@@ -181,7 +181,7 @@ fn pattern_in_frame(
             after(alloc, make_build(pattern).at(place), stack, token)
         }
         PatternFrame::Applied(strategy) => {
-            let whole = make_applied(alloc, strategy, pattern)?;
+            let whole = make_applied(alloc, stack.order(), strategy, pattern)?;
             after(alloc, whole, stack, token)
         }
         PatternFrame::Matched(strategy) => {

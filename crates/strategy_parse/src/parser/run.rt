@@ -1,8 +1,9 @@
 //! Parsing the start of a list of tokens.
 
-ghost use Rattle.std.specs.Prelude.{◌≡◌, List, IfOk, Err, Some, None};
+ghost use Rattle.std.specs.Prelude.{◌≡◌, List, [], IfOk, Err, Some, None};
 ghost use Rattle.strategy_syntax.specs.Syntax as syntax;
 ghost use Rattle.strategy_parse.specs.Core.{core};
+ghost use Rattle.strategy_parse.specs.declared.parser.state.Order.TheVariants.{Run, Written};
 ghost use Rattle.strategy_parse.specs.inside.Forms.{forms};
 ghost use Rattle.strategy_parse.specs.inside.Fronts.{FrontGives, Stops};
 ghost use Rattle.strategy_parse.specs.Grammar.{ReadsChoice, ReadsPattern};
@@ -25,7 +26,7 @@ pub fn read_strategy<'a>(
 ) -> Result<(Strategy, &'a [Token]), SyntaxFault>
     ensures given { IfOk result (λ r. FrontGives tokens.now r.0 r.1.now) }
     ensures only { IfOk result (λ r. (a : Choice) (y : List Token) → ReadsChoice a tokens.now y
-        → Stops y → (core a ≡ r.0) × (y ≡ r.1.now)) }
+        → Stops y → (core Run a ≡ r.0) × (y ≡ r.1.now)) }
     ensures none { result ≡ Err SyntaxFault.Syntax → (a : Choice) (y : List Token)
         → ReadsChoice a tokens.now y → Stops y → ⊥ }
 {
@@ -35,6 +36,22 @@ pub fn read_strategy<'a>(
         ParserStack::new(alloc),
         tokens,
     )
+}
+
+/// The strategy that all of the tokens are, with its parts in the order of the text.
+pub fn read_in_text(alloc: Global, tokens: &[Token]) -> Result<Strategy, SyntaxFault>
+    ensures only { IfOk result (λ s. (a : Choice) → ReadsChoice a tokens.now []
+        → core Written a ≡ s) }
+    ensures none { result ≡ Err SyntaxFault.Syntax → (a : Choice) → ReadsChoice a tokens.now []
+        → ⊥ }
+{
+    let (strategy, _left) = run(
+        alloc,
+        ParserState::Strategy,
+        ParserStack::in_text(alloc)?,
+        tokens,
+    )?;
+    Ok(strategy)
 }
 
 /// The pattern at the start of the tokens, as long as possible, and the rest.

@@ -1,7 +1,7 @@
 //! The open forms, the innermost on top.
 #![tactic(auto, unfolding(crate::specs::inside::Forms::forms))]
 
-use crate::parser::state::{Infix, ParserFrame};
+use crate::parser::state::{Infix, Order, ParserFrame};
 use std::alloc::Global;
 use strategy_syntax::Strategy;
 use term_core::{Name, NoMemory};
@@ -13,8 +13,8 @@ pub struct ParserStack {
 }
 
 impl ParserStack {
-    ghost use Rattle.std.specs.Prelude.{◌≡◌, ◌∷◌, [], IfSome, IfNone, OnOk, true, false, reverse};
-    ghost use Rattle.strategy_parse.specs.inside.Parser.{no_operand, no_at, HasOperand};
+    ghost use Rattle.std.specs.Prelude.{◌≡◌, ◌∷◌, [], IfOk, IfSome, IfNone, OnOk, true, false, reverse};
+    ghost use Rattle.strategy_parse.specs.inside.Parser.{no_operand, no_at, order_of, HasOperand};
     ghost use Rattle.strategy_parse.specs.inside.Forms.{forms};
     ghost use Rattle.strategy_parse.specs.declared.parser.state.ParserFrame.{ParserFrame};
 
@@ -24,6 +24,25 @@ impl ParserStack {
     {
         ParserStack {
             frames: Vec::new(alloc),
+        }
+    }
+
+    /// A stack for a strategy that is read in the order of the text.
+    pub fn in_text(alloc: Global) -> Result<ParserStack, NoMemory>
+        ensures { IfOk result (λ stack. forms stack ≡ ParserFrame.InText ∷ []) }
+    {
+        let mut stack = ParserStack::new(alloc);
+        stack.push(ParserFrame::InText)?;
+        Ok(stack)
+    }
+
+    /// The order in which parts of forms are put together.
+    pub fn order(&self) -> Order
+        ensures { result ≡ order_of (forms self.now) }
+    {
+        match self.frames.first() {
+            Some(outermost) => outermost.order(),
+            None => Order::Run,
         }
     }
 
@@ -86,6 +105,24 @@ impl ParserStack {
                 drop(other);
                 None
             }
+        }
+    }
+}
+
+impl ParserFrame {
+    ghost use Rattle.std.specs.Prelude.{◌≡◌, ◌∷◌, []};
+    ghost use Rattle.strategy_parse.specs.inside.Parser.{order_of};
+
+    // The order that it asks for if it is the outermost form.
+    fn order(&self) -> Order
+        ensures { result ≡ order_of (self.now ∷ []) }
+    {
+        match self {
+            ParserFrame::InText => Order::Written,
+            ParserFrame::Operand(_, _)
+            | ParserFrame::At(_)
+            | ParserFrame::Strategy(_)
+            | ParserFrame::Pattern(_) => Order::Run,
         }
     }
 }

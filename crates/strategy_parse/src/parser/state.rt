@@ -46,6 +46,8 @@ pub enum ParserState {
 /// An open form, with what was read of it.
 #[derive(Drop)]
 pub enum ParserFrame {
+    /// Below all other forms: the strategy is read in the order of the text.
+    InText,
     /// A strategy and the operator after it
     Operand(Infix, Strategy),
     /// `x @`
@@ -113,6 +115,15 @@ pub enum PatternFrame {
     List(PatternGroup, ItemList<Pattern>),
     /// `[ p, .. |`
     Tail(ItemList<Pattern>),
+}
+
+/// The order in which parts of a form are put together.
+#[derive(Clone, Copy)]
+pub enum Order {
+    /// As they are run
+    Run,
+    /// As they are written
+    Written,
 }
 
 /// The words that may come before a single strategy in brackets.
