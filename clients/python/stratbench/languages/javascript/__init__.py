@@ -34,8 +34,9 @@ def _words() -> list[str]:
     fields = {it.name: it.fields for it in _grammar().constructors.values()}
     folders = [*os.environ.get("NODE_PATH", "").split(":"), *_FOLDERS]
     node = os.environ.get("NODE", "node")
+    script = resource(__name__, "node.js") + resource(__name__, "front.js")
     # `env` leaves the environment of this process alone
-    return ["env", "NODE_PATH=" + ":".join(it for it in folders if it), node, "-e", resource(__name__, "front.js"), json.dumps(fields)]
+    return ["env", "NODE_PATH=" + ":".join(it for it in folders if it), node, "-e", script, json.dumps(fields)]
 
 
 def _kind(name: str) -> str:

@@ -1,10 +1,9 @@
 // The front end for JavaScript and TypeScript: languages/front.py has what it is asked, and what it answers.
 //
-// It is run by `node -e`, with the fields of the grammar's constructors as JSON. Trees are ESTree's, but what ESTree has under one name, or
-// two at one place, has names of its own here, so that no two children of a node overlap. Positions are bytes of the source in UTF-8.
+// Whoever runs it defines `parse`, of @babel/parser, and `fields`, a map of the fields of the grammar's constructors: node.js, and the page.
+// Trees are ESTree's, but what ESTree has under one name, or two at one place, has names of its own here, so that no two children of a node
+// overlap. Positions are bytes of the source in UTF-8.
 'use strict'
-const { parse } = require('@babel/parser')
-const fields = new Map(Object.entries(JSON.parse(process.argv[1])))
 
 const PLUGINS = { script: ['jsx'], module: ['jsx'], typescript: ['typescript', 'decorators-legacy'], tsx: ['typescript', 'jsx', 'decorators-legacy'], declarations: [['typescript', { dts: true }]] }
 
@@ -121,8 +120,10 @@ const withType = it => like('TypedPattern', it, { pattern: { ...it, typeAnnotati
 // where a pattern with a type ends itself
 const inner = it => { let at = it.typeAnnotation.start; while (/\s|\?/.test(text[at - 1])) at--; return at }
 
-const quoted = text => '"' + Buffer.from(text).toString('latin1').replace(/["\\]|[^ -~]/g, it =>
-  it === '"' ? '\\"' : it === '\\' ? '\\\\' : '\\' + it.charCodeAt(0).toString(8).padStart(3, '0')) + '"'
+const utf8 = new TextEncoder()
+const octal = byte => '\\' + byte.toString(8).padStart(3, '0')
+const quoted = text => '"' + text.replace(/["\\]|[^ -~]+/g, it =>
+  it === '"' ? '\\"' : it === '\\' ? '\\\\' : Array.from(utf8.encode(it), octal).join('')) + '"'
 
 let text, out, terms, deepest, byte, places
 function write (it, level) {
@@ -162,8 +163,8 @@ function node (it, level) {
 }
 
 // The byte of each character.
-function bytes (source) {
-  if (text.length === source.length) return at => at
+function bytes () {
+  if (!/[^\0-\x7f]/.test(text)) return at => at
   const found = new Uint32Array(text.length + 1)
   for (let at = 0, sum = 0; at < text.length; at++) {
     const code = text.charCodeAt(at)
@@ -185,9 +186,10 @@ function parsed (kind) {
   }
 }
 
+/** The term of a source, `{ term, terms, deepest }`, with positions or without; or what is wrong with it, `{ place, message }`. */
 function answer (kind, wanted, source) {
-  text = source.toString('utf8')
-  byte = bytes(source)
+  text = source
+  byte = bytes()
   places = wanted
   try {
     const tree = parsed(kind)
@@ -195,29 +197,9 @@ function answer (kind, wanted, source) {
     // a program is the whole text
     tree.start = 0; tree.end = text.length
     write(tree, 1)
-    return `ok ${terms} ${deepest} ${out.length}\n${out}\n`
+    return { term: out, terms, deepest }
   } catch (error) {
     const message = String(error.message).split('\n')[0].replace(/ \(\d+:\d+\)$/, '')
-    return `no ${byte(Math.min(error.pos || 0, text.length))} ${Buffer.byteLength(message)}\n${message}\n`
+    return { place: byte(Math.min(error.pos || 0, text.length)), message }
   }
 }
-
-// Pieces are joined once a request is whole.
-let got = []; let length = 0; let wanted = 0
-function serve () {
-  for (;;) {
-    if (length < wanted || length === 0) return
-    const all = got.length === 1 ? got[0] : Buffer.concat(got)
-    got = [all]
-    const end = all.indexOf(10)
-    if (end < 0) return
-    const [, kind, positions, size] = all.subarray(0, end).toString().split(' ')
-    wanted = end + 1 + Number(size)
-    if (length < wanted) return
-    process.stdout.write(answer(kind, positions === '1', all.subarray(end + 1, wanted)))
-    got = [all.subarray(wanted)]
-    length -= wanted
-    wanted = 0
-  }
-}
-process.stdin.on('data', data => { got.push(data); length += data.length; serve() })
