@@ -3,10 +3,14 @@
 // The tokens of a printed term, and white space.
 const TOKEN = /-?\d+|[A-Za-z_][A-Za-z0-9_\-+*$.']*|"(?:[^"\\]|\\[^])*"|[[\](){},]|[ \t\r\n]+/y;
 const CLOSING = { '(': ')', '[': ']', '{': '}' };
+// The annotation that is a position in a source. Many nodes have one, and few are asked for it.
+const POSITION = /\{(\(\d+,\d+\))\}/y;
+const NONE = Object.freeze([]);
 
 /**
- * One term of a text. `head` is its name, its integer, `[` or `(`; `kids` are its children and `notes` its annotations.
- * `start` and `end` are places in `text`, of the whole with annotations. `size` counts the terms in it without annotations.
+ * One term of a text. `head` is its name, its integer, `[` or `(`; `kids` are its children and `notes` its annotations, of which one that
+ * is a position in a source is a text. `start` and `end` are places in `text`, of the whole with annotations. `size` counts the terms in it
+ * without annotations.
  */
 class Node {
   constructor(text, head, start) {
@@ -14,9 +18,10 @@ class Node {
     this.head = head;
     this.start = start;
     this.end = start;
-    this.kids = [];
-    this.notes = [];
+    this.kids = NONE;
+    this.notes = NONE;
     this.size = 1;
+    this.position = '';                                     // that in a source, as an annotation has it
   }
 
   get isList() { return this.head === '['; }
@@ -58,7 +63,8 @@ const BYTES = /((?:\\[23][0-7]{2})+)|\\[^]/g;
 const UNSEEN = /[\p{C}\p{Z}]/u;
 
 const charactersOf = escapes => utf8.decode(Uint8Array.from(escapes.split('\\').slice(1), it => parseInt(it, 8)));
-const escaped = text => [...new TextEncoder().encode(text)].map(it => `\\${it.toString(8)}`).join('');
+const encoder = new TextEncoder();
+const escaped = text => [...encoder.encode(text)].map(it => `\\${it.toString(8).padStart(3, '0')}`).join('');
 
 function asText(quoted) {
   try {
@@ -72,6 +78,28 @@ function asText(quoted) {
 
 /** A printed term in which each string that is UTF-8 has its characters in place of the escapes of their bytes. It spells the same term. */
 export const withCharacters = remembered(text => (text.includes('\\') ? text.replace(QUOTED, asText) : text));
+
+const POSITIONS = /"(?:[^"\\]|\\[^])*"|\{\(\d+,\d+\)\}/g;
+
+/** A printed term without the annotations that are positions in a source. */
+export const withoutPositions = remembered(text => text.replace(POSITIONS, it => (it[0] === '"' ? it : '')));
+
+const ESCAPES = { n: '\n', t: '\t', r: '\r' };
+
+/** The text that a quoted name stands for. Bytes that aren't UTF-8 become the sign for such. */
+export function unquoted(quotation) {
+  const inside = quotation.slice(1, -1);
+  if (!inside.includes('\\')) return inside;
+  const bytes = [...inside.matchAll(/\\(\d{3})|\\(.)|[^\\]+/gs)].flatMap(([whole, octal, letter]) => (octal
+    ? [parseInt(octal, 8)]
+    : [...encoder.encode(letter === undefined ? whole : ESCAPES[letter] ?? letter)]));
+  return new TextDecoder('utf-8', { ignoreBOM: true }).decode(Uint8Array.from(bytes));
+}
+
+const LETTERS = { '\n': '\\n', '\t': '\\t', '\r': '\\r', '"': '\\"', '\\': '\\\\' };
+
+/** A text as the quoted name that stands for it, as the engine prints it. */
+export const quoted = text => `"${text.replace(/["\\]|[^ -~]+/g, run => [...run].map(it => LETTERS[it] ?? escaped(it)).join(''))}"`;
 
 /** Reads a printed term. Returns null where the text is none. */
 export const readTerm = remembered(read);
@@ -92,19 +120,28 @@ function read(text) {
     } while (/^[ \t\r\n]/.test(token));
   };
   const start = () => at - token.length;
-  const list = into => {                                    // after the opening bracket
+  const list = () => {                                      // after the opening bracket
     const closing = CLOSING[token];
+    const found = [];
     next();
     while (token !== closing) {
       const node = term();
-      if (!node) return false;
-      into.push(node);
+      if (!node) return null;
+      found.push(node);
       if (token === ',') {
         next();
-        if (token === closing) return false;
-      } else if (token !== closing) return false;
+        if (token === closing) return null;
+      } else if (token !== closing) return null;
     }
-    return true;
+    return found.length ? found : NONE;
+  };
+  const notes = node => {
+    POSITION.lastIndex = start();
+    const found = POSITION.exec(text);
+    if (!found) return list();
+    at = POSITION.lastIndex;
+    node.position = found[1];
+    return [found[1]];
   };
   const term = () => {
     if (!token || /^[,)\]}{]/.test(token)) return null;
@@ -114,12 +151,14 @@ function read(text) {
     if (isName) next();
     if (!isName && !/^[[(]/.test(token)) next();
     else if (token === '(' || (!isName && token === '[')) {
-      if (!list(node.kids)) return null;
+      node.kids = list();
+      if (!node.kids) return null;
       node.end = at;
       next();
     }
     if (token === '{') {
-      if (!list(node.notes)) return null;
+      node.notes = notes(node);
+      if (!node.notes) return null;
       node.end = at;
       next();
     }
