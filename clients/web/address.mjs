@@ -35,12 +35,14 @@ export async function read(hash) {
   }
 }
 
-const isPair = it => Array.isArray(it) && it.length === 2 && it.every(word => typeof word === 'string');
-const isPairs = it => Array.isArray(it) && it.every(isPair);
+const areTexts = (it, count) => Array.isArray(it) && it.length === count && it.every(word => typeof word === 'string');
+const isPairs = it => Array.isArray(it) && it.every(pair => areTexts(pair, 2));
+// A tree's name, the language of its source, and its text. Older addresses have none.
+const areSources = it => it === undefined || (Array.isArray(it) && it.every(source => areTexts(source, 3)));
 
 const isTry = it => ['tree', 'path', 'strategy'].every(name => typeof it?.[name] === 'string') && Number.isInteger(it.budget);
 
 function isState(it) {
   return isTry(it) && isPairs(it.trees) && isPairs(it.modules) && ['undefined', 'string'].includes(typeof it.module)
-    && (it.tries === undefined || (Array.isArray(it.tries) && it.tries.every(isTry)));
+    && areSources(it.sources) && (it.tries === undefined || (Array.isArray(it.tries) && it.tries.every(isTry)));
 }

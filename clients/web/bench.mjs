@@ -13,7 +13,7 @@ const CHANGE = /^(\S+) ((?:[^"]|"(?:[^"\\]|\\.)*")*?) => ([^]*)$/;
 export class Bench {
   constructor(client) {
     this.client = client;
-    this.clear({ trees: [], modules: [] });
+    this.clear({ trees: [], modules: [], sources: [] });
   }
 
   clear(base) {
@@ -23,6 +23,7 @@ export class Bench {
     this.at = 0;
     this.trees = new Map();                                 // texts as the engine prints them
     this.modules = new Map();                               // texts as the page gave them
+    this.sources = new Map();                               // of a tree: the source that it was read from, `{language, text}`
   }
 
   get canUndo() { return this.at > 0; }
@@ -34,7 +35,7 @@ export class Bench {
   async ask(script) { return (await this.make('run', script)).answers.replace(/\n$/, ''); }
 
   /**
-   * Begins a session with these trees and modules, `{modules, trees}`. All are one step, which the timeline begins with.
+   * Begins a session with these trees and modules, `{modules, trees, sources}`. All are one step, which the timeline begins with.
    * Where some are refused, the others are loaded. Returns the refused ones, `{kind, name, refusal}`.
    */
   async begin(base) {
@@ -42,6 +43,7 @@ export class Bench {
     this.clear(base);
     const faults = await this.loadTogether(base) ?? await this.loadApart(base);
     await this.refresh(base.trees.map(([name]) => name));
+    this.sources = new Map(base.sources.filter(([name]) => this.trees.has(name)));
     this.begun = { trees: [...this.trees], modules: [...this.modules] };
     return faults;
   }
@@ -92,9 +94,9 @@ export class Bench {
     const refusal = refused(outcome);
     if (refusal) return { refusal, warnings: [], took: outcome.took };
     this.steps.length = this.at;
-    this.steps.push({ ...step, took: outcome.took, modulesBefore: new Map(this.modules) });
+    this.steps.push({ ...step, took: outcome.took, modulesBefore: new Map(this.modules), sourcesBefore: new Map(this.sources) });
     this.at++;
-    this.keepModules(step);
+    this.keep(step);
     await this.refresh(touched(step));
     if (step.kind === 'tree') this.steps.at(-1).printed = this.trees.get(step.name);
     return { refusal: null, warnings: warnings(outcome), took: outcome.took };
@@ -122,10 +124,14 @@ export class Bench {
     return { ...outcome, said: said.join('') + outcome.said };
   }
 
-  keepModules(step) {
+  /** Notes what a step makes of the modules' texts and of the sources. */
+  keep(step) {
     if (step.kind === 'module') this.modules.set(step.name, step.text);
     if (step.kind === 'modules') step.modules.forEach(([name, text]) => this.modules.set(name, text));
     if (step.kind === 'unload') this.modules.delete(step.name);
+    if (step.kind === 'tree' && step.source) this.sources.set(step.name, step.source);
+    if (step.kind === 'copy' && this.sources.has(step.name)) this.sources.set(step.to, this.sources.get(step.name));
+    if (step.kind === 'drop') this.sources.delete(step.name);
   }
 
   /** Shows what `apply` would replace: `{changes: [{path, before, after}], steps}`, or `{refusal}`. */
@@ -146,8 +152,10 @@ export class Bench {
     const outcome = await this.make('run', command);
     if (outcome.status) throw new Broken('failed', outcome.answers);
     const passed = this.steps.slice(from, to);
-    if (at < this.at) this.modules = new Map(passed[0].modulesBefore);
-    else passed.forEach(step => this.keepModules(step));
+    if (at < this.at) {
+      this.modules = new Map(passed[0].modulesBefore);
+      this.sources = new Map(passed[0].sourcesBefore);
+    } else passed.forEach(step => this.keep(step));
     this.at = at;
     await this.refresh(passed.flatMap(step => touched(step)));
   }
@@ -178,7 +186,7 @@ export class Bench {
    */
   async again() {
     const { base, steps, at } = this;
-    const now = { ...base, trees: [...this.trees], modules: [...this.modules] };
+    const now = { trees: [...this.trees], modules: [...this.modules], sources: [...this.sources] };
     await this.client.start();
     if (steps.reduce((sum, it) => sum + it.took, 0) <= REPLAYED) {
       try {

@@ -4,6 +4,7 @@ import { askForName } from './parts.mjs';
 import { bench, loadedTexts, names, page } from './state.mjs';
 import { clearSaid, editors, show } from './view.mjs';
 import { loadDrafts, run } from './runs.mjs';
+import { prepare } from './languages.mjs';
 import { isName } from './commands.mjs';
 import { sayFault } from './telling.mjs';
 
@@ -26,19 +27,34 @@ function freeName(kind, first) {
 
 export async function addTree() {
   const copies = names('tree').filter(it => bench.trees.has(it)).map(it => [`a copy of ${it}`, { copied: it }]);
-  const answer = await askForName('Add a tree', freeName('tree', 't'), [['an empty text', null], ...copies], it => faultOfName('tree', it));
+  const sources = Object.entries(page.languages).map(([language, { title }]) => [`a source in ${title}`, { language }]);
+  const starts = [['an empty text', null], ...copies, ...sources];
+  const answer = await askForName('Add a tree', freeName('tree', 't'), starts, it => faultOfName('tree', it));
   if (!answer) return;
   page.tree = answer.name;
   page.marks = new Map();
   page.isTouched = true;
-  if (answer.from) {
+  if (answer.from?.copied) {
     await run(() => bench.perform({ kind: 'copy', name: answer.from.copied, to: answer.name }));
+    return;
+  }
+  if (answer.from) {
+    await addSource(answer.name, answer.from.language);
     return;
   }
   page.drafts.tree.set(answer.name, '');
   page.isText = true;
   show();
   editors.tree.focus();
+}
+
+async function addSource(name, language) {
+  await prepare(language, page.languages[language]);
+  page.draftLanguages.set(name, language);
+  page.drafts.source.set(name, '');
+  page.isText = false;
+  show();
+  editors.source.focus();
 }
 
 export async function addModule() {
@@ -62,8 +78,10 @@ export async function addModule() {
 export async function remove(kind) {
   const name = page[kind];
   if (!name) return;
-  page.drafts[kind].delete(name);
-  page.faulty[kind].delete(name);
+  for (const it of kind === 'tree' ? ['tree', 'source'] : [kind]) {
+    page.drafts[it].delete(name);
+    page.faulty[it].delete(name);
+  }
   page.isTouched = true;
   if (!loadedTexts(kind).has(name)) {
     show();

@@ -57,10 +57,11 @@ const unitsBefore = (line, column) => [...line].slice(0, column - 1).join('').le
 
 /**
  * Makes an editor of a text field. `changed` is called as somebody types. Tab leaves the editor, as it leaves any field. `complete` says
- * which names begin with a text, `{name, said}`, and `explain` what a name means.
+ * which names begin with a text, `{name, said}`, and `explain` what a name means. `moved` is called where the cursor is moved, with the
+ * places in the text that are selected.
  */
-export function makeEditor(field, { mode, changed, complete, explain, numbers = true }) {
-  if (!window.CodeMirror) return plainEditor(field, changed);
+export function makeEditor(field, { mode, changed, complete, explain, moved, numbers = true }) {
+  if (!window.CodeMirror) return plainEditor(field, changed, moved);
   if (!window.CodeMirror.modes.strategies) defineModes();
   const keys = complete ? { 'Ctrl-Space': () => completeAt(editor, complete) } : {};
   const editor = window.CodeMirror.fromTextArea(field, {
@@ -75,8 +76,19 @@ export function makeEditor(field, { mode, changed, complete, explain, numbers = 
   }
   if (explain) explainUnder(editor, explain);
   let isSetting = false;
+  let isTyping = false;
   let marks = [];
-  editor.on('change', () => { if (!isSetting) changed?.(editor.getValue()); });
+  let chosen;
+  editor.on('change', () => {
+    if (isSetting) return;
+    isTyping = true;
+    changed?.(editor.getValue());
+  });
+  // after what is typed the cursor moves, too
+  editor.on('cursorActivity', () => {
+    if (!isTyping && !isSetting) moved?.(...['from', 'to'].map(it => editor.indexFromPos(editor.getCursor(it))));
+    isTyping = false;
+  });
   const clear = () => {
     marks.forEach(it => it.clear());
     marks = [];
@@ -86,7 +98,7 @@ export function makeEditor(field, { mode, changed, complete, explain, numbers = 
     set value(text) {
       if (text === editor.getValue()) return;
       isSetting = true;
-      editor.setValue(text);
+      setText(editor, text);
       editor.clearHistory();
       isSetting = false;
     },
@@ -107,14 +119,40 @@ export function makeEditor(field, { mode, changed, complete, explain, numbers = 
       editor.setCursor({ line: line - 1, ch: unitsBefore(editor.getLine(line - 1) ?? '', column) });
       editor.scrollIntoView(null, 60);
     },
+    /** Marks what is between two places, and brings it into view. */
+    choose(first, last) {
+      chosen?.clear();
+      chosen = undefined;
+      if (first === last) return;
+      const [from, to] = [first, last].map(it => editor.posFromIndex(it));
+      chosen = editor.markText(from, to, { className: 'cm-chosen' });
+      if (!editor.hasFocus()) editor.scrollIntoView({ from, to: from }, 40);
+    },
     refresh: () => editor.refresh(),
     focus: () => editor.focus(),
+    set mode(name) { if (editor.getOption('mode') !== name) editor.setOption('mode', name); },
     set label(text) { input.setAttribute('aria-label', text); },
     set isReadOnly(is) {
       editor.setOption('readOnly', is);
       input.setAttribute('aria-readonly', String(is));
     },
   };
+}
+
+/** Sets the text of an editor. Where most of it stays, only the rest is laid out anew, and what is in view stays. */
+function setText(editor, text) {
+  const before = editor.getValue();
+  const most = Math.min(before.length, text.length);
+  let front = 0;
+  while (front < most && before[front] === text[front]) front++;
+  let back = 0;
+  while (back < most - front && before.at(-1 - back) === text.at(-1 - back)) back++;
+  if (front + back < text.length / 2 || text.includes('\r')) {
+    editor.setValue(text);
+    return;
+  }
+  const [from, to] = [front, before.length - back].map(it => editor.posFromIndex(it));
+  editor.replaceRange(text.slice(front, text.length - back), from, to);
 }
 
 /** Offers the names that begin with what is before the cursor. */
@@ -140,8 +178,12 @@ function explainUnder(editor, explain) {
   });
 }
 
-function plainEditor(field, changed) {
+function plainEditor(field, changed, moved) {
   field.addEventListener('input', () => changed?.(field.value));
+  for (const name of ['click', 'keyup']) {
+    // after what is typed the cursor moves, too
+    field.addEventListener(name, ({ key = 'ArrowLeft' }) => /^(?:Arrow|Home|End|Page)/.test(key) && moved?.(field.selectionStart, field.selectionEnd));
+  }
   const go = ({ line, column }) => {
     const lines = field.value.split('\n');
     const at = lines.slice(0, line - 1).reduce((sum, it) => sum + it.length + 1, 0) + unitsBefore(lines[line - 1] ?? '', column);
@@ -154,8 +196,10 @@ function plainEditor(field, changed) {
     clear() { field.removeAttribute('aria-invalid'); },
     mark(_, title, isWarning = false) { if (!isWarning) field.setAttribute('aria-invalid', 'true'); },
     go,
+    choose(first, last) { if (document.activeElement !== field) field.setSelectionRange(first, last); },
     refresh() {},
     focus: () => field.focus(),
+    set mode(_) {},
     set label(text) { field.setAttribute('aria-label', text); },
     set isReadOnly(is) { field.readOnly = is; },
   };

@@ -61,6 +61,10 @@ export class Outline {
     this.term = term;
     this.marks = marks;
     this.path = path;
+    if (!term) {
+      this.root.replaceChildren();
+      return;
+    }
     if (!keep) {
       this.opened.clear();
       this.more.clear();

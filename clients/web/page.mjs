@@ -6,18 +6,36 @@ import { bench, client, leaveAddress, names, page, writeAddress } from './state.
 import { byId, showText, wireTextDialog } from './parts.mjs';
 import { check, sayFault } from './telling.mjs';
 import { choose, clearSaid, editors, notice, on, pathChanged, show, showTree, strategyChanged } from './view.mjs';
+import { language, prepare } from './languages.mjs';
 import { read } from './address.mjs';
 
 // ---- opening
 
+/** The sources of a state: those of trees that are there, or that can be read, whose trees are added; and the texts of the others. */
+async function sourcesOf({ trees, sources = [] }) {
+  await Promise.all(sources.map(([, name]) => prepare(name, page.languages[name])));
+  const found = { trees: [...trees], sources: [], unread: new Map() };
+  for (const [name, known, given] of sources) {
+    const text = given.replace(/\r\n?/g, '\n');
+    const { term } = language(known)?.parse(text) ?? {};
+    const isThere = trees.some(it => it[0] === name);
+    if (!isThere && term !== undefined) found.trees.push([name, term]);
+    if (isThere || term !== undefined) found.sources.push([name, { language: known, text }]);
+    else found.unread.set(name, text);
+  }
+  return found;
+}
+
 /** Opens a state: its trees and modules become a new session, which the timeline begins with. A run that is going on is ended. */
 const open = (state, hash, said) => instead(async () => {
-  const texts = { tree: new Map(state.trees), module: new Map(state.modules) };
+  const { trees, sources, unread } = await sourcesOf(state);
+  const texts = { tree: new Map(trees), module: new Map(state.modules), source: unread };
   clearSaid();
   Object.assign(page, {
     tree: state.tree,
     module: state.module ?? state.modules.at(-1)?.[0] ?? '',
-    drafts: { tree: new Map(texts.tree), module: new Map(texts.module) },
+    drafts: { tree: new Map(texts.tree), module: new Map(texts.module), source: unread },
+    draftLanguages: new Map(state.sources?.map(([name, known]) => [name, known])),
     opened: page.opened + 1,
     order: { tree: [...texts.tree.keys()], module: [...texts.module.keys()] },
     marks: new Map(),
@@ -32,10 +50,10 @@ const open = (state, hash, said) => instead(async () => {
   byId('budget').value = state.budget;
   byId('example').value = state.id ?? '';
   editors.strategy.value = state.strategy;
-  bench.clear({ trees: [], modules: [] });
+  bench.clear({ trees: [], modules: [], sources: [] });
   if (!client.isThere) await client.start();
-  const faults = await bench.begin({ trees: state.trees, modules: state.modules });
-  page.drafts = { tree: new Map(), module: new Map() };
+  const faults = await bench.begin({ trees, modules: state.modules, sources });
+  page.drafts = { tree: new Map(), module: new Map(), source: unread };
   for (const { kind, name } of faults) page.drafts[kind].set(name, texts[kind].get(name));
   for (const { kind, name, refusal } of faults.reverse()) sayFault(kind, name, refusal);
   if (said) notice(said);
@@ -98,10 +116,12 @@ function toggleBytes() {
 const back = () => bench.canUndo && run(() => goTo(bench.at - 1));
 const forth = () => bench.canRedo && run(() => goTo(bench.at + 1));
 
+const CHECKS = { strategy: tryOut, tree: () => check('tree'), module: () => check('module'), source: async () => showTree() };
+
 /** Checks soon what is typed, unless something is run first. */
 function checkSoon(kind) {
   clearTimeout(page.checking);
-  const tried = kind === 'strategy' ? tryOut : () => check(kind);
+  const tried = CHECKS[kind];
   page.checking = setTimeout(() => tried().catch(fault => {
     if (fault.kind === 'trapped') run(() => { throw fault; });
   }), 500);

@@ -1,10 +1,11 @@
 // What the buttons do with the session: one thing at a time, each of which can be stopped.
 
-import { MOST, bench, client, page, shownTerm, shownText } from './state.mjs';
+import { MOST, bench, client, drawnText, languageOf, page, shownTerm } from './state.mjs';
 import { button, byId, say, soon, withCode } from './parts.mjs';
 import { clearSaid, editors, notice, saidOf, show, showButtons, showTree } from './view.mjs';
 import { MARKED, differences, pathText, readPath } from './terms.mjs';
 import { check, sayFault, sayNotRun, sayRefusal, sayWarnings } from './telling.mjs';
+import { language } from './languages.mjs';
 import { Broken } from './client.mjs';
 
 /** A run that takes longer than so many milliseconds shows a button to stop it. */
@@ -100,7 +101,12 @@ function forget(drafts, loaded) {
 
 function stepsOfDrafts() {
   const modules = [...page.drafts.module];
-  const trees = [...page.drafts.tree].map(([name, text]) => ({ kind: 'tree', name, text, isNew: !bench.trees.has(name) }));
+  const tree = (name, text, source) => ({ kind: 'tree', name, text, source, isNew: !bench.trees.has(name) });
+  const read = [...page.drafts.source].map(([name, text]) => [name, { language: languageOf(name), text }]);
+  const trees = [
+    ...[...page.drafts.tree].map(([name, text]) => tree(name, text)),
+    ...read.map(([name, source]) => tree(name, language(source.language).parse(source.text).term, source)),
+  ];
   if (modules.length > 1) return [{ kind: 'modules', modules }, ...trees];
   return [...modules.map(([name, text]) => ({ kind: 'module', name, text, isNew: !bench.modules.has(name) })), ...trees];
 }
@@ -108,6 +114,13 @@ function stepsOfDrafts() {
 /** Loads the drafts, each as a step, and several modules as one. Resolves to whether all are accepted. */
 export async function loadDrafts() {
   clearSaid();
+  const unread = [...page.drafts.source].find(([name, text]) => !language(languageOf(name))?.parse(text).root);
+  if (unread) {
+    [page.tree] = unread;
+    page.faulty.source.add(page.tree);
+    showTree();
+    return false;
+  }
   for (const step of stepsOfDrafts()) {
     const kind = step.kind === 'tree' ? 'tree' : 'module';
     page.marks = new Map();
@@ -116,7 +129,8 @@ export async function loadDrafts() {
       sayFault(kind, step.name, refusal);
       return false;
     }
-    forget(page.drafts[kind], step.modules ?? [[step.name, step.text]]);
+    if (step.source) forget(page.drafts.source, [[step.name, step.source.text]]);
+    else forget(page.drafts[kind], step.modules ?? [[step.name, step.text]]);
     if (warnings.length) sayWarnings(kind, step.name, warnings);
   }
   return true;
@@ -188,7 +202,7 @@ export async function preview() {
 function sayChanges({ changes, steps, took }, isShown) {
   page.marks = new Map();
   for (const { path, ...sides } of changes) {
-    const [before, after] = [sides.before, sides.after].map(shownText);
+    const [before, after] = [sides.before, sides.after].map(drawnText);
     const told = { title: 'would be…', titles: ['now', 'after'], label: (_, it) => `would be ${it}` };
     page.marks.set(path, { kind: 'preview', before, after, isShown, ...told });
   }
@@ -211,7 +225,7 @@ const TRIED = 20000;
  */
 export async function tryOut() {
   const path = readPath(byId('path').value.trim());
-  const areDrafts = page.drafts.tree.size || page.drafts.module.size;
+  const areDrafts = Object.values(page.drafts).some(it => it.size);
   if (areDrafts || !path || page.isText || !bench.trees.has(page.tree)) return check('strategy');
   if (page.isBusy || client.isBusy || !page.isChecking || !editors.strategy.value.trim()) return undefined;
   const { opened } = page;

@@ -49,9 +49,10 @@ export function sayWarnings(kind, loaded, warnings) {
 
 /** Says at the strategy that it isn't run, since a tree or a module is refused, as its own pane says. */
 export function sayNotRun() {
-  const kind = page.faulty.tree.size ? 'tree' : 'module';
+  const kind = ['source', 'tree'].find(it => page.faulty[it].size) ?? 'module';
   const show = button(`Show the ${kind}`, () => saidOf(kind).scrollIntoView({ block: 'center' }));
-  say(saidOf('strategy'), 'refused', ...withCode(`Not run, since the ${kind} \`${page[kind]}\` is refused. `), show);
+  const name = page[kind === 'source' ? 'tree' : kind];
+  say(saidOf('strategy'), 'refused', ...withCode(`Not run, since the ${kind} \`${name}\` is refused. `), show);
 }
 
 /** Says of an `apply` or a `preview` that it is refused. `again` makes it once more. */

@@ -2,12 +2,14 @@
 
 import { Find } from './find.mjs';
 import { Outline } from './outline.mjs';
+import { SourcePane } from './source_pane.mjs';
 import { Tabs, button, byId, say, showTimeline, withCode } from './parts.mjs';
-import { bench, fields, keepAddress, loadedText, names, page, shownTerm, textOf } from './state.mjs';
+import { bench, fields, keepAddress, languageOf, loadedText, names, page, shownTerm, textOf } from './state.mjs';
 import { labelOf } from './commands.mjs';
 import { completionsOf, meaningOf } from './names.mjs';
 import { makeEditor } from './editors.mjs';
 import { pathText, readPath } from './terms.mjs';
+import { sourceOf } from './source.mjs';
 
 /** What is done when something is chosen or typed; the page fills it in. */
 export const on = { edited() {}, goTo() {}, tried() {} };
@@ -16,10 +18,15 @@ const chosen = path => {
   byId('path').value = path;
   pathChanged();
   byId('tree-hint').replaceChildren(...withCode(`The strategy is applied at \`${path}\`.`));
+  sourcePane.mark(path);
 };
 
 const outline = new Outline(byId('outline'), chosen);
 const find = new Find(outline, chosen);
+const sourcePane = new SourcePane(path => {
+  if (!byId('outline-box').hidden) outline.reach(path);
+  chosen(path);
+}, sourceEdited);
 
 const known = { complete: completionsOf, explain: meaningOf };
 
@@ -27,6 +34,7 @@ export const editors = {
   tree: makeEditor(byId('tree-input'), { mode: 'terms', changed: text => edited('tree', text) }),
   module: makeEditor(byId('module-input'), { mode: 'strategies', ...known, changed: text => edited('module', text) }),
   strategy: makeEditor(byId('strategy-input'), { mode: 'strategies', ...known, changed: strategyChanged, numbers: false }),
+  source: sourcePane.editor,
 };
 
 const tabs = {
@@ -52,7 +60,9 @@ export function show() {
 }
 
 function showTabs(kind) {
-  const all = names(kind).map(name => ({ name, isEdited: page.drafts[kind].has(name), isFaulty: page.faulty[kind].has(name) }));
+  const kinds = kind === 'tree' ? ['tree', 'source'] : [kind];
+  const is = (what, name) => kinds.some(it => page[what][it].has(name));
+  const all = names(kind).map(name => ({ name, isEdited: is('drafts', name), isFaulty: is('faulty', name) }));
   tabs[kind].show(all, page[kind]);
 }
 
@@ -68,10 +78,16 @@ export function showPane(kind) {
   byId(`${kind}-remove`).disabled = !name;
 }
 
-const isTextShown = () => page.isText || !bench.trees.has(page.tree);
+const isTextShown = () => page.isText || (!bench.trees.has(page.tree) && !languageOf(page.tree));
+
+/** The printed tree that is shown: that of the source as it is typed, where that can be read. */
+export function shownTree() {
+  const typed = page.drafts.source.has(page.tree) && sourceOf(page.tree).root;
+  return typed ? String(typed) : bench.trees.get(page.tree);
+}
 
 export function showTree() {
-  const text = bench.trees.get(page.tree);
+  const text = shownTree();
   const isText = isTextShown();
   byId('tree-editor').hidden = !isText;
   byId('outline-box').hidden = isText;
@@ -82,10 +98,11 @@ export function showTree() {
   if (isText) {
     editors.tree.value = page.tree && textOf('tree', page.tree);
     editors.tree.refresh();
-    return;
   }
-  const path = readPath(byId('path').value);
-  outline.show(shownTerm(text), { marks: page.marks, path: path ? pathText(path) : '/', keep: outline.name === page.tree });
+  const path = pathText(readPath(byId('path').value) ?? []);
+  sourcePane.show(page.tree, path);
+  if (isText) return;
+  outline.show(text === undefined ? undefined : shownTerm(text), { marks: page.marks, path, keep: outline.name === page.tree });
   outline.name = page.tree;
   find.renew();
 }
@@ -104,11 +121,11 @@ export function notice(text) {
 
 /** Takes away all that was said and marked of refusals. */
 export function clearSaid() {
-  for (const kind of ['tree', 'module', 'strategy']) {
+  for (const kind of ['tree', 'module', 'strategy', 'source']) {
     say(saidOf(kind));
     editors[kind].clear();
   }
-  page.faulty = { tree: new Set(), module: new Set() };
+  page.faulty = { tree: new Set(), module: new Set(), source: new Set() };
   for (const id of ['path', 'budget']) byId(id).removeAttribute('aria-invalid');
   notice('');
 }
@@ -123,10 +140,28 @@ function edited(kind, text) {
   page.faulty[kind].delete(name);
   say(saidOf(kind));
   editors[kind].clear();
-  if (kind === 'tree') page.marks = new Map();
+  if (kind === 'tree') {
+    page.marks = new Map();
+    // of a tree and its source that which was edited last is loaded
+    if (bench.trees.has(name)) page.drafts.source.delete(name);
+  }
   showTabs(kind);
   keepAddress();
   on.edited(kind);
+}
+
+// The source is read soon, and the tree with it.
+function sourceEdited(text) {
+  const name = page.tree;
+  page.drafts.tree.delete(name);
+  page.drafts.source.delete(name);
+  if (!bench.trees.has(name) || sourceOf(name)?.text !== text) page.drafts.source.set(name, text);
+  page.isTouched = true;
+  page.marks = new Map();
+  page.faulty.source.delete(name);
+  showTabs('tree');
+  keepAddress();
+  on.edited('source');
 }
 
 export function strategyChanged() {

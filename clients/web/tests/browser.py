@@ -7,6 +7,7 @@ line for each and their count.
 """
 
 import argparse
+import base64
 import functools
 import http.server
 import json
@@ -14,6 +15,7 @@ import os
 import re
 import subprocess
 import sys
+import tempfile
 import threading
 import time
 import traceback
@@ -32,6 +34,8 @@ ENDLESS = "repeat({x: ?(x,x)})"
 # A pattern so deep that a worker's stack, which is smaller than that of a program, runs out.
 DEEPEST = "?" + "(" * 1995 + "1" + ")" * 1995
 LONG = "[" + ",".join(["a"] * 20000) + "]"
+TOP = os.path.realpath(f"{os.path.dirname(__file__)}/../../..")
+SOURCE = ".source-pane"
 
 
 # Finds the editor of a pane, and sets a field as somebody would.
@@ -169,6 +173,20 @@ class Page:
         if strategy is not None:
             self.strategy(strategy)
         self.click("#apply")
+
+
+# The constructors of the rewrites, for the module of a case.
+NAMES = "\n  ".join(f"{name} : {' * '.join(['a'] * count)}{' -> ' if count else ''}a" for name, count in {
+    "Absent": 0, "BinaryExpression": 3, "BlockStatement": 1, "ConditionalExpression": 3, "ExpressionStatement": 1, "Identifier": 1, "IfStatement": 3, "LogicalExpression": 3,
+    "Null": 0, "Number": 1, "NumberLiteral": 1, "ReturnStatement": 1, "String": 1, "StringLiteral": 1, "ThrowStatement": 1, "TypedIdentifier": 3,
+}.items())  # fmt: skip
+
+
+def case(language, text, strategy="id", **more):
+    """The address of a case whose tree `t` is that of a source."""
+    state = {"sources": [["t", language, text]], "trees": [], "modules": [["own", f"signature constructors\n  {NAMES}"]], "tree": "t", "path": "/", "budget": 100000}
+    written = json.dumps({**state, "strategy": strategy, **more}).encode()
+    return "#j=" + base64.urlsafe_b64encode(written).decode().rstrip("=")
 
 
 def same(got, wanted):
@@ -621,6 +639,322 @@ def try_examples(page):
             assert re.match(r"Would replace|Refused \((fails|spent|path|notree)\)", said), f"{example}: {said}"
 
 
+SAMPLE, SETTINGS = (f"{TOP}/clients/web/samples/{it}" for it in ("cart.js", "service.json"))
+
+
+def text_of(file):
+    with open(file, encoding="utf-8") as it:
+        return it.read()
+
+
+def in_tree(page):
+    """The path that is chosen in the tree."""
+    return page.js("return document.querySelector('#outline [aria-selected=true]')?.dataset.path ?? document.querySelector('#outline .chosen')?.dataset.path")
+
+
+def in_text(page):
+    """What is marked in the source."""
+    return "\n".join(page.texts(f"{SOURCE} .cm-chosen"))
+
+
+def word(page, text, number=0):
+    """A word of the source, to click on."""
+    found = "return [...document.querySelectorAll('.source-pane .CodeMirror-line span')].filter(it => !it.children.length && it.textContent === arguments[0])[arguments[1]]"
+    return page.js(found, text, number)
+
+
+def diff(page):
+    """The lines of the diff that is shown: those that go, and those that come."""
+    return [[it[1:].strip() for it in page.texts(f"#diff {tag}")] for tag in ("del", "ins")]
+
+
+def try_source_and_tree(page):
+    """A source is shown beside its tree, and what is selected in one is selected in the other."""
+    page.open("#example=javascript")
+    same(page.editor(SOURCE), text_of(SAMPLE))
+    has(page.text("#outline"), "Program", "FunctionDeclaration", 'Identifier("total")')
+    assert "{(" not in page.text("#outline"), "positions are shown"
+    page.click("#outline [data-path='/0/1/2'] .label")
+    same((in_text(page), page.text("#source-hint")), ("total", "/0/1/2 is in line 4, columns 10 to 14."))
+    word(page, "rates").click()
+    same((in_tree(page), in_text(page)), ("/0/1/3/1", "rates"))
+    same(page.js("return document.getElementById('path').value"), "/0/1/3/1")
+    # one that isn't drawn before it is selected
+    word(page, "price").click()
+    chosen = in_tree(page)
+    same(in_text(page), "price")
+    has(page.js("return document.querySelector(`#outline [data-path='${arguments[0]}']`).textContent", chosen), 'Identifier("price")')
+    # by keys
+    page.press(Keys.HOME)
+    page.press(Keys.ARROW_UP)
+    page.until(lambda: in_tree(page) != chosen, "the cursor selects in the tree")
+    page.js("document.querySelector('#outline [role=treeitem]').focus()")
+    page.press(Keys.ARROW_DOWN, Keys.ARROW_DOWN, Keys.ENTER)
+    same((in_tree(page), in_text(page)), ("/0/0", "'use strict'"))
+
+
+def try_source_rewritten(page):
+    """After a step the source is written anew, with what has changed in it, and comments stay."""
+    page.open("#example=javascript")
+    page.click("#apply")
+    before, after = text_of(SAMPLE), text_of(SAMPLE).replace("rates.indexOf(item.rate) !== -1", "rates.includes(item.rate)").replace("== 'number'", "=== 'number'")
+    same(page.editor(SOURCE), after)
+    changed = [(one.strip(), two.strip()) for one, two in zip(before.split("\n"), after.split("\n")) if one != two]
+    same(diff(page), [list(it) for it in zip(*changed)])
+    has(page.text("#diff"), "@@ -4,13 +4,13 @@", "// a known rate")
+    word(page, "includes").click()
+    same(in_text(page), "includes")
+    page.click("#undo")
+    same((page.editor(SOURCE), page.one("#diff-pane").is_displayed()), (before, False))
+    page.click("#redo")
+    same(page.editor(SOURCE), after)
+    page.field("path", "/")
+    page.all("#tries button")[1].click()
+    page.click("#apply")
+    has(page.editor(SOURCE), "cart.items.forEach((item) => {", "{ // a known rate", "warn(`no rate for ${item.name}`)", "// What a cart comes to, in cents.")
+    same(page.said("source"), "")
+
+
+def try_source_edited(page):
+    """The tree is read as a source is typed; it is loaded as a step where a strategy is applied."""
+    page.open("#example=javascript")
+    page.editor(SOURCE, "let answer = 42")
+    page.until(lambda: "answer" in page.text("#outline"), "the tree is read")
+    same(page.steps(), ["start"])
+    page.click("#outline [data-path='/0/0/1/0/0'] .label, #outline [data-path='/0/0/1/0/0']")
+    same(in_text(page), "answer")
+    page.editor(SOURCE, "let answer = \n  42 +")
+    page.until(lambda: "Not read as JavaScript" in page.said("source"), "the fault is said")
+    has(page.said("source"), "line 2, column 7")
+    page.field("path", "/")
+    page.apply("id")
+    has(page.said("strategy"), "Not run, since the source cart is refused.")
+    same(page.steps(), ["start"])
+    page.editor(SOURCE, "let answer = 42 // of all")
+    page.apply('topdown(try(\\ NumberLiteral(42) -> NumberLiteral(43) \\))')
+    same(page.steps()[:2], ["start", "edit cart"])
+    same((page.editor(SOURCE), page.said("source")), ("let answer = 43 // of all", ""))
+    same(diff(page), [["let answer = 42 // of all"], ["let answer = 43 // of all"]])
+    page.click("#undo")
+    page.click("#undo")
+    same(page.editor(SOURCE), text_of(SAMPLE))
+
+
+def try_source_added(page):
+    """A source is begun from nothing, beside a tree that has none."""
+    same(page.one(SOURCE).is_displayed(), False)
+    page.click("#tree-add", waits=False)
+    page.js("""const it = document.getElementById('add-from');
+        it.value = [...it.options].findIndex(o => o.text === 'a source in JSON');
+        it.dispatchEvent(new Event('change'))""")
+    page.one("#add-name").send_keys(Keys.ENTER)
+    page.type_into(SOURCE, "[1, 2]")
+    page.until(lambda: "Array" in page.text("#outline"), "the tree is read")
+    page.apply("id")
+    same((page.steps(), page.texts("#tree-tabs button")), (["start", "add t", "id"], ["e", "t"]))
+    same(page.tree(), "Document(Array([Number(1){(1,2)},Number(2){(4,5)}]){(0,6)}){(0,6)}")
+    page.click("#tree-tabs button:first-child")
+    same(page.one(SOURCE).is_displayed(), False)
+    page.click("#tree-tabs button:last-child")
+    same(page.editor(SOURCE), "[1, 2]")
+    # a copy has it, too
+    page.click("#tree-add", waits=False)
+    page.js("const it = document.getElementById('add-from'); it.value = [...it.options].findIndex(o => o.text === 'a copy of t')")
+    name = page.one("#add-name")
+    name.clear()
+    name.send_keys("u", Keys.ENTER)
+    page.until(lambda: page.steps()[-1] == "copy t to u", "the tree is copied")
+    page.apply("oncetd(\\ 1 -> 3 \\)")
+    same((page.editor(SOURCE), diff(page)), ("[3, 2]", [["[1, 2]"], ["[3, 2]"]]))
+    page.click("#tree-remove")
+    same(page.editor(SOURCE), "[1, 2]")
+
+
+def try_source_after_stop(page):
+    """A session that is made again has its sources, also where its steps are gone."""
+    page.open(case("json", "[1, 2]", "rec x(\\ 1 -> 3 \\ <+ one(x))", trees=[["long", f"({LONG},{LONG})"]]))
+    page.click("#apply")
+    page.click("#tree-tabs button:first-child")
+    page.field("budget", 1000000)
+    page.strategy("rec r({x: ?(x,x)}; r)")
+    page.click("#apply", waits=False)
+    page.until(lambda: page.one("#stop").is_displayed(), "the button to stop is shown")
+    page.click("#stop")
+    has(page.text("#notice"), "The run was stopped.")
+    page.click("#tree-tabs button:last-child")
+    same((page.editor(SOURCE), diff(page)), ("[3, 2]", [["[1, 2]"], ["[3, 2]"]]))
+
+
+# What a strategy makes of a source: the language, the source, the strategy, the new source, and what is said of it.
+REWRITES = {
+    "brackets come where the parse asks for them": (
+        "javascript", "x = twice * 2 + twice - twice\ny = -twice; twice.z\n", r'topdown(try(\ Identifier("twice") -> BinaryExpression(Identifier("a"),"+",Identifier("b")) \))',
+        "x = (a + b) * 2 + (a + b) - (a + b)\ny = -(a + b); (a + b).z\n", ""),
+    "a block comes around an if without else": (
+        "javascript", "if (a) {\n  if (b) c()\n} else d()\n", r"topdown(try(\ IfStatement(c,BlockStatement([s]),e) -> IfStatement(c,s,e) \))", "if (a) { if (b) c() } else d()\n", ""),
+    "statements move with their comments, and one comes in the place of another": (
+        "javascript", "// one\na()\n// two\nb() // three\n// four\nc()\n", r'topdown(try(\ [x,y,z] -> [z,x,ExpressionStatement(Identifier("d"))] \))', "// one\n// four\nc()\na()\n// two\nd // three\n", ""),
+    "elements come as the list is written": (
+        "javascript", "f(\n  a, // one\n  b\n);\n", r'topdown(try(\ [x@Identifier("a"),y] -> [x,y,StringLiteral("it\047s")] \))', "f(\n  a, // one\n  b,\n  'it\\'s'\n);\n", ""),
+    "new statements have semicolons where the others have some": (
+        "javascript", "a();\n\nfunction f() {\n\treturn 'ü';\n}\n", r'bottomup(try(\ ReturnStatement(x) -> IfStatement(x,BlockStatement([ReturnStatement(x)]),Absent()) \ <+ \ ExpressionStatement(x) -> ThrowStatement(x) \))',
+        "throw a();\n\nfunction f() {\n\tif ('ü') {\n\t\treturn 'ü';\n\t}\n}\n", ""),
+    "types of TypeScript stay": (
+        "typescript", "const old: Array<number> = [] // one\n", r'topdown(try(\ TypedIdentifier("old",o,t) -> TypedIdentifier("now",o,t) \))', "const now: Array<number> = [] // one\n", ""),
+    "a comment in what is made anew is named": (
+        "javascript", "x = a ? /* one */ b : c\n", r'topdown(try(\ ConditionalExpression(c,a,b) -> LogicalExpression(c,"||",b) \))', "x = a || c\n", "Lost: no place was found for a comment. /* one */"),
+    "members of JSON keep their layout": (
+        "json", '{"a": 1, // one\n "b": [1.50, "\\u00fc"]}', r'topdown(try(\ String("b") -> String("ü\n") \ <+ \ Number(1) -> Null() \))', '{"a": null, // one\n "ü\\n": [1.50, "\\u00fc"]}', ""),
+    "a word isn't two words": ("javascript", "x = a\n", r'topdown(try(\ Identifier("a") -> Identifier("a b") \))', "x = a\n", "Not written: No text of JavaScript was found for the tree"),
+    "a tree of another kind": ("javascript", "x = a\n", "!3", "x = a\n", "Not written: It is no tree of JavaScript"),
+    "a field of another kind": ("json", "[1]", r'topdown(try(\ Number(1) -> Number([2]) \))', "[1]", "Not written: It is no tree of JSON: no text for"),
+}  # fmt: skip
+def try_source_rewrites(page):
+    """What is new is written by templates, and what can't be written is said, in place of a wrong text."""
+    library = page.editor(".module-pane") if page.click("#module-tabs button:first-child") is None else ""
+    for name, (language, text, strategy, wanted, said) in REWRITES.items():
+        modules = [["library", library], ["own", f"signature constructors\n  {NAMES}"]]
+        page.open(case(language, text, strategy, modules=modules))
+        page.click("#apply")
+        has(page.said("strategy"), "Applied")
+        same((name, page.editor(SOURCE)), (name, wanted))
+        assert page.said("source").startswith(said) if said else not page.said("source"), f"{name}: {page.said('source')}"
+        if said.startswith("Not written"):
+            place = page.text("#source-said button")
+            page.click("#source-said button")
+            same(page.js("return document.getElementById('path').value"), place)
+
+
+def try_source_in_json(page):
+    """A source in JSON is rewritten in the same way."""
+    page.open("#example=json")
+    same(page.editor(SOURCE), text_of(SETTINGS))
+    word(page, '"level"').click()
+    has(page.js("return document.querySelector(`#outline [data-path='${arguments[0]}']`).textContent", in_tree(page)), 'String("level")')
+    page.field("path", "/")
+    page.click("#apply")
+    same(diff(page), [['"level": "info", // or "debug"', '"file": null'], ['"level": "warn", // or "debug"', '"file": null,', '"keep": 30']])
+    has(page.editor(SOURCE), "// How the service begins. It is read once.")
+    same(page.said("source"), "")
+    for text, said in (('{"a": 1,, }', "a key is wanted"), ("[1 2]", "a comma is wanted"), ('{"a" 1}', "a colon is wanted"), ("[1] 2", "something comes after"), ('["\\x"]', "wrong escape"), ("", "a value is wanted"), ("[tru]", "no JSON begins here")):
+        page.editor(SOURCE, text)
+        page.until(lambda: said in page.said("source"), f"{said} is said of {text}")
+
+
+def try_sources_as_the_client_reads_them(page):
+    """The tree of a source is the one that the client for Python prints."""
+    sys.path.insert(0, f"{TOP}/clients/python")
+    from stratbench.terms import read
+
+    texts = {
+        "json": [text_of(SETTINGS), '[-0, 12345678901234567890, 1e3, "\\u00fc\\n\\ud834\\udd1e", {"ü": {}, "": [true, null,],},]\n', "/* one */ 7"],
+        "javascript": [text_of(SAMPLE), "#!/usr/bin/env node\nlet ü = '𝄞\\n', q = `${a}\nb`, r = /\\//g\nfor (const [x, , ...y] of z) label: ({ x, [y]: 1n, get a () {} })\nclass A extends B { #c = 1; static async *d() {} }\n<p a='1'>{...q} text</p>\n"],
+    }
+    for language, some in texts.items():
+        for text in some:
+            page.open(case(language, text))
+            with tempfile.NamedTemporaryFile("w", encoding="utf-8", suffix=f".{language}") as file:
+                file.write(text)
+                file.flush()
+                words = [sys.executable, "-B", "-m", "stratbench.languages", "--language", language, file.name]
+                said = subprocess.run(words, stdout=subprocess.PIPE, check=True, env={**os.environ, "PYTHONPATH": f"{TOP}/clients/python"}).stdout
+            same(read(page.tree()), read(said.decode().strip()))
+
+
+def try_source_in_address(page):
+    """An address has a source with its language, before a step and after one, and as it is typed."""
+    page.open("#example=javascript")
+    before = page.tree()
+    address = lambda: "#" + page.shown("#share").partition("#")[2]
+    first = address()
+    page.click("#apply")
+    second, after, text = address(), page.tree(), page.editor(SOURCE)
+    page.editor(SOURCE, "a(")
+    third = address()
+    page.open(first)
+    same((page.editor(SOURCE), page.text("#source-language"), page.tree()), (text_of(SAMPLE), "JavaScript", before))
+    page.open(second)
+    same((page.editor(SOURCE), page.tree()), (text, after))
+    same(diff(page)[0][0], "if (rates.indexOf(item.rate) !== -1) { // a known rate")
+    assert len(second) < 3 * len(first), f"{len(first)} and {len(second)} characters"
+    page.open(third)
+    same(page.editor(SOURCE), "a(")
+    has(page.said("source"), "Not read as JavaScript")
+    same(page.texts("#tree-tabs button"), ["cart"])
+    for wrong in ("x", [["t", "json"]], [["t", "json", 1]], {}):
+        page.open(case("json", "1", sources=wrong))
+        has(page.text("#notice"), "no case that this page can read")
+
+
+def try_source_without_parser(page):
+    """Where the parser can't be had, a source and its tree are shown, and that is said."""
+    page.open("#example=javascript")
+    page.click("#apply")
+    after, fresh = "#" + page.shown("#share").partition("#")[2], case("javascript", "a()")
+    page.driver.execute_cdp_cmd("Network.enable", {})
+    page.driver.execute_cdp_cmd("Network.setBlockedURLs", {"urls": ["*javascript.mjs"]})
+    try:
+        page.open(after)
+        same(page.editor(SOURCE), text_of(SAMPLE))
+        has(page.said("source"), "Not written: No new text is written: this page has no parser for it.")
+        page.click("#outline [data-path='/0/1/2'] .label")
+        same(in_text(page), "total")
+        page.field("path", "/")
+        page.apply("all(id)")
+        has(page.said("strategy"), "Applied")
+        page.open(fresh)
+        has(page.said("source"), "Not read as JavaScript: this page has no parser for it")
+        same(page.editor(SOURCE), "a()")
+        page.apply("id")
+        has(page.said("strategy"), "Not run, since the source t is refused.")
+    finally:
+        page.driver.execute_cdp_cmd("Network.setBlockedURLs", {"urls": []})
+
+
+def try_source_for_readers(page):
+    """The panes of a source have roles and names, and are reached by keys."""
+    page.open("#example=javascript")
+    page.click("#apply")
+    told = page.read_out()
+    for wanted in (("region", "Source"), ("region", "Changed in the source"), ("textbox", "Source of cart, in JavaScript"), ("group", "Changed in the source")):
+        assert wanted in told, f"there is no {wanted} in {told}"
+    roles = {role for role, _ in told}
+    assert {"deletion", "insertion"} <= roles, f"nothing says what goes and what comes: {roles}"
+    same({role for role, name in told if not name.strip() and role in ("textbox", "button", "region", "treeitem", "tab")}, set())
+    page.js("document.activeElement.blur()")
+    reached = []
+    for _ in range(40):
+        page.press(Keys.TAB)
+        reached.append(page.js("const it = document.activeElement; return it.id || it.getAttribute('aria-label') || it.tagName"))
+    for wanted in ("Source of cart, in JavaScript", "diff"):
+        assert wanted in reached, f"{wanted} isn't reached by Tab: {reached}"
+    for width, height in (PHONE, NARROW):
+        page.size(width, height)
+        wide = page.js("return document.documentElement.scrollWidth")
+        assert wide <= width, f"{wide} of {width} pixels"
+    page.size(*DESK)
+
+
+def try_source_without_codemirror(page):
+    """Where CodeMirror isn't at hand, a plain text field has the source."""
+    page.driver.execute_cdp_cmd("Network.enable", {})
+    page.driver.execute_cdp_cmd("Network.setBlockedURLs", {"urls": ["*codemirror.js"]})
+    try:
+        page.open("#example=json")
+        same(page.editor(SOURCE), text_of(SETTINGS))
+        page.click("#outline [data-path='/0/0/0/0'] .label, #outline [data-path='/0/0/0/0']")
+        field = "const it = document.getElementById('source-input'); return it.value.slice(it.selectionStart, it.selectionEnd)"
+        same(page.js(field), '"name"')
+        page.js("const it = document.getElementById('source-input'); it.focus(); it.setSelectionRange(arguments[0], arguments[0])", text_of(SETTINGS).index("8081"))
+        page.press(Keys.ARROW_RIGHT)
+        page.until(lambda: page.js("return document.getElementById('path').value") == "/0/0/1/1/0/1", "the cursor selects in the tree")
+        page.field("path", "/")
+        page.click("#apply")
+        has(page.editor(SOURCE), '"keep": 30')
+    finally:
+        page.driver.execute_cdp_cmd("Network.setBlockedURLs", {"urls": []})
+
+
 def try_keyboard(page):
     """All is reached and done by keys."""
     page.js("document.activeElement.blur()")
@@ -762,6 +1096,9 @@ def try_without_network(page, folder=None):
         page.open()
         page.click("#apply")
         same(page.tree(), DONE)
+        page.open("#example=javascript")
+        page.click("#apply")
+        has(page.editor(SOURCE), "rates.includes(item.rate)")
     finally:
         page.address = usual
         page.driver.execute_cdp_cmd("Network.setBypassServiceWorker", {"bypass": True})
@@ -876,6 +1213,32 @@ def try_speed(page):
             took.append(float(page.js("return document.getElementById('strategy-said').dataset.took")))
         print(f"  {name}: {min(took):.0f} ms at best, {sorted(took)[2]:.0f} mostly; {min(shown):.0f} ms at best until it is shown")
         assert min(took) < 1000, took
+
+
+# Some 4,300 nodes of JavaScript.
+LONG_SOURCE = "".join(f"if (a{it} > {it}) call(b.c, 'x', {it}) // {it}\n" for it in range(360))
+# Opens a case with a tree `t`, and calls back with the milliseconds until it is shown.
+OPEN_CASE = """const [hash, done] = arguments, begun = performance.now();
+const isShown = () => document.querySelector('#tree-tabs button')?.textContent === 't' && !document.body.classList.contains('running');
+const look = () => isShown() ? done(performance.now() - begun) : setTimeout(look, 0);
+location.hash = hash;
+setTimeout(look, 0);
+"""
+
+
+def try_source_speed(page):
+    """Measures how long a long source takes to open, and a step in it. Other work on the machine makes both longer, so the bounds are wide."""
+    opened = []
+    for _ in range(5):
+        page.open()
+        opened.append(page.driver.execute_async_script(OPEN_CASE, case("javascript", LONG_SOURCE)))
+    page.strategy(r'rec x(\ NumberLiteral(n) -> StringLiteral("n") \ <+ one(x))')
+    page.driver.set_script_timeout(10 * WAIT)
+    took = page.driver.execute_async_script(APPLY_AGAIN, 20)
+    page.driver.set_script_timeout(WAIT)
+    same(len(diff(page)[0]), 10)
+    print(f"  a source of 4,300 nodes: open in {min(opened):.0f} ms at best, {sorted(opened)[2]:.0f} mostly; a step takes {min(took):.0f}, {sorted(took)[10]:.0f} mostly")
+    assert min(opened) < 5000 and min(took) < 2000, (opened, took)
 
 
 def opened():
