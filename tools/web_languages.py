@@ -5,6 +5,7 @@ import os
 import re
 import sys
 
+from c_library import contents
 from embedding import installed
 from workbench import TOP
 
@@ -12,9 +13,11 @@ sys.path.insert(0, f"{TOP}/clients/python")
 from stratbench import languages  # noqa: E402
 from stratbench.patch.grammar import Field, Group  # noqa: E402
 
-# Of Debian's node-babel7: one file, which asks for no other.
-PARSER = "/usr/share/nodejs/@babel/parser/lib/index.js"
-FRONT = f"{TOP}/clients/python/stratbench/languages/javascript/front.js"
+CLIENT = f"{TOP}/clients/python/stratbench"
+# Of Debian's node-babel7. The parser is one file, which asks for no other.
+PACKAGE = "/usr/share/nodejs/@babel/parser"
+PARSER = f"{PACKAGE}/lib/index.js"
+FRONT = f"{CLIENT}/languages/javascript/front.js"
 # The languages of the page: what each is called, whose grammar it has and which kind of file it is there, its parser, and its colours.
 LANGUAGES = {
     "javascript": {"title": "JavaScript", "grammar": "javascript", "kind": "script", "parser": "javascript.mjs", "mode": "text/javascript"},
@@ -22,9 +25,16 @@ LANGUAGES = {
     "json": {"title": "JSON", "grammar": "json", "kind": "json", "parser": "json.mjs", "mode": "application/json"},
 }
 MODULE = """// The front end for JavaScript with its parser, made by tools/web of the client's front end and of Debian's node-babel7.
-// @babel/parser is under the MIT licence: copyright 2012-2014 by various contributors.
+//
+// @babel/parser %s
+// Copyright (c) 2014-present Sebastian McKenzie and other contributors
+//
+%s
+const { parse } = (() => {
 const exports = {}
 %s
+return exports
+})()
 let fields
 /** Returns what parses, with these fields of the grammar's constructors. */
 export function frontEnd (given) {
@@ -60,11 +70,20 @@ def front():
     """The front end for JavaScript as a module, or nothing where its parser isn't there."""
     if not os.path.exists(PARSER) and not installed(["node-babel7"]):
         return None
-    with open(PARSER, encoding="utf-8") as one, open(FRONT, encoding="utf-8") as other:
-        texts = [re.sub(r"^'use strict';?\n", "", it.read(), flags=re.MULTILINE) for it in (one, other)]
-    # its names aren't those of the front end
-    parser = re.sub(r"^Object\.defineProperty\(exports, '__esModule'.*\n|^//# sourceMappingURL.*\n?", "", texts[0], flags=re.MULTILINE)
-    return MODULE % (f"const {{ parse }} = (() => {{\n{parser}\nreturn exports\n}})()", texts[1])
+    version = json.loads(contents(f"{PACKAGE}/package.json"))["version"]
+    # a module is strict, and has no map
+    parser, front = (re.sub(r"^'use strict';?\n|^//# sourceMappingURL.*\n?", "", contents(it).decode(), flags=re.MULTILINE) for it in (PARSER, FRONT))
+    licence = contents(f"{TOP}/LICENSE-MIT").decode().partition("Permission is")
+    lines = "".join(licence[1:]).rstrip().split("\n")
+    return MODULE % (version, "\n".join(f"// {it}".rstrip() for it in lines), parser, front)
+
+
+def modules(known):
+    """The modules that rules in the syntax of these languages need, as the client makes modules of rules: the name and the text of each."""
+    names = sorted({it["grammar"] for it in known.values()})
+    files = [f"{TOP}/strategies/{it}.str" for it in names] + [f"{CLIENT}/concrete/concrete.str"] + [f"{CLIENT}/languages/{it}/concrete.str" for it in names]
+    texts = [contents(it).decode().strip("\n") for it in files]
+    return [[re.match(r"module (\S+)", it)[1], it] for it in texts]
 
 
 def made(build):

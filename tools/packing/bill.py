@@ -40,6 +40,12 @@ def codemirror(made):
     return [component("library", "codemirror", found[1], licenses=[{"license": {"id": "MIT"}}])] if found else []
 
 
+def parser(made):
+    """The parser for JavaScript that the page has, if it has one."""
+    found = re.search(r"^// @babel/parser (\S+)$", made.get("page/javascript.mjs", b"").decode(), re.MULTILINE)
+    return [component("library", "@babel/parser", found[1], licenses=[{"license": {"id": "MIT"}}])] if found else []
+
+
 def binaryen(made):
     """The program that lowers the module for browsers, if there is one among these files."""
     if not any(name.endswith((".tgz", ".wasm")) for name in made):
@@ -56,7 +62,7 @@ def make(parts, made):
     from_kit = sorted({it for name in ours for it in every[name]} - {*every})
     components = [component("library", name, parts.number, licenses=[LICENCE]) for name in ours]
     components += [component("library", name, kit.split()[0], description="a library of Rattle's kit") for name in from_kit]
-    components += codemirror(made)
+    components += codemirror(made) + parser(made)
     components += [
         {"type": "file", "bom-ref": f"file:{name}", "name": name, "hashes": [{"alg": "SHA-256", "content": checksum(text)}]} for name, text in sorted(made.items())
     ]
