@@ -101,12 +101,23 @@ export class Outline {
 
   /** Opens what is around a subterm, chooses it, and brings it into view. */
   reach(text) {
+    if (!this.term) return;
     const path = readPath(text);
     this.reveal(this.open, text);
     path.forEach((_, depth) => this.opened.delete(pathText(path.slice(0, depth))));
     this.path = text;
     this.draw();
-    this.row(text)?.querySelector('.label').scrollIntoView({ block: 'nearest', inline: 'nearest' });
+    const label = this.row(text)?.querySelector('.label');
+    if (label) this.bring(label.getBoundingClientRect());
+  }
+
+  // Scrolls what is around the tree, and not the page: the reader may be elsewhere in it.
+  bring(place) {
+    const box = this.root.parentElement;
+    const around = box.getBoundingClientRect();
+    if (place.top < around.top || place.bottom > around.top + box.clientHeight) box.scrollTop += place.top - around.top - box.clientHeight / 2;
+    const [left, right] = [place.left - around.left, place.right - around.left - box.clientWidth];
+    if (left < 0 || right > 0) box.scrollLeft += Math.min(left, right);
   }
 
   isOpen(text) { return this.opened.get(text) ?? this.open.has(text); }

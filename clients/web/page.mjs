@@ -5,7 +5,7 @@ import { apply, goTo, instead, loadDrafts, preview, run, stop, time, tryOut } fr
 import { bench, client, leaveAddress, names, page, writeAddress } from './state.mjs';
 import { byId, showText, wireTextDialog } from './parts.mjs';
 import { check, sayFault } from './telling.mjs';
-import { choose, clearSaid, editors, notice, on, pathChanged, show, showTree, strategyChanged } from './view.mjs';
+import { choose, clearSaid, editors, notice, on, pathChanged, select, show, showTree, strategyChanged } from './view.mjs';
 import { language, prepare } from './languages.mjs';
 import { read } from './address.mjs';
 
@@ -107,6 +107,11 @@ function toggleText() {
   show();
 }
 
+function wholeTree() {
+  select('/');
+  byId('path').focus();
+}
+
 function toggleBytes() {
   page.isBytes = !page.isBytes;
   page.marks = new Map();
@@ -162,6 +167,7 @@ function wire() {
     share,
     script: () => showText('Script', 'Commands that lead from nothing to what is there now, for the program.', bench.script()),
     dump: () => run(async () => showText('Dump', 'A script that makes the trees and modules again, as they are now.', await bench.dump())),
+    'path-root': wholeTree,
     'tree-add': addTree,
     'tree-remove': () => remove('tree'),
     'tree-text': toggleText,

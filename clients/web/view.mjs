@@ -23,10 +23,7 @@ const chosen = path => {
 
 const outline = new Outline(byId('outline'), chosen);
 const find = new Find(outline, chosen);
-const sourcePane = new SourcePane(path => {
-  if (!byId('outline-box').hidden) outline.reach(path);
-  chosen(path);
-}, sourceEdited);
+const sourcePane = new SourcePane(select, sourceEdited);
 
 const known = { complete: completionsOf, explain: meaningOf };
 
@@ -100,6 +97,7 @@ export function showTree() {
     editors.tree.refresh();
   }
   const path = pathText(readPath(byId('path').value) ?? []);
+  byId('path-root').hidden = path === '/';
   sourcePane.show(page.tree, path);
   if (isText) return;
   outline.show(text === undefined ? undefined : shownTerm(text), { marks: page.marks, path, keep: outline.name === page.tree });
@@ -156,12 +154,19 @@ function sourceEdited(text) {
   page.drafts.tree.delete(name);
   page.drafts.source.delete(name);
   if (!bench.trees.has(name) || sourceOf(name)?.text !== text) page.drafts.source.set(name, text);
-  page.isTouched = true;
   page.marks = new Map();
   page.faulty.source.delete(name);
+  // the path was that of what was clicked on
+  byId('path').value = '/';
+  pathChanged();
   showTabs('tree');
-  keepAddress();
   on.edited('source');
+}
+
+/** Takes what is at a path as what the strategy is applied to, and shows it in the tree and in the source. */
+export function select(path) {
+  if (!byId('outline-box').hidden) outline.reach(path);
+  chosen(path);
 }
 
 export function strategyChanged() {
@@ -175,6 +180,7 @@ export function strategyChanged() {
 export function pathChanged() {
   page.isTouched = true;
   byId('path').removeAttribute('aria-invalid');
+  byId('path-root').hidden = byId('path').value.trim() === '/';
   keepAddress();
 }
 
