@@ -3,7 +3,7 @@
 import { bench, languageOf, page } from './state.mjs';
 import { language, placesOf } from './languages.mjs';
 import { readTerm } from './terms.mjs';
-import { written } from './writer.mjs';
+import { written } from './written.mjs';
 
 // What was found last of each tree, as it is loaded and as it is typed.
 const found = new Map();

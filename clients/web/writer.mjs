@@ -1,63 +1,15 @@
-// Writes a tree as the text of its language: what is left of an old tree keeps its text, and what is new is written by the grammar's
-// templates. The result is parsed and compared with the tree.
-//
-// Text is put together of pieces, a rope: strings, ends of lines with the indentation after them, and places of brackets. A rope is as it
-// would be in the first column, so that it can be placed in any.
+// Writes a tree as a rope: what is left of an old tree keeps its text, and what is new is written by the grammar's templates.
 
-import { unquoted, withoutPositions } from './terms.mjs';
-
-/** So many parses look for the brackets that are needed, and so many characters are parsed at most for those that aren't. */
-const TRIES = 40;
-const FEWER = 300000;
-
-const WORD = /[\p{ID_Continue}$]$/u;
-const WORD_BEGINS = /^[\p{ID_Continue}$]/u;
-
-/** What has to be between two texts, so that they stay apart. */
-function between(one, two) {
-  const isWord = WORD.test(one) && WORD_BEGINS.test(two);
-  return isWord || ['++', '--', '//', '/*'].includes(one.slice(-1) + two[0]) ? ' ' : '';
-}
-
-/** The rope of a text whose first line was indented so. */
-function lines(text, indent) {
-  if (!text.includes('\n')) return text ? [text] : [];
-  return text.split('\n').flatMap((line, i) => {
-    if (i === 0) return line ? [line] : [];
-    const blanks = /^[ \t]*/.exec(line)[0];
-    const end = blanks.startsWith(indent) ? { blanks: blanks.slice(indent.length) } : { blanks, isFixed: true };
-    return line.length > blanks.length ? [end, line.slice(blanks.length)] : [end];
-  });
-}
-
-/** A rope where it begins after an indentation. */
-const placed = (rope, indent) => (indent
-  ? rope.map(it => (it.blanks === undefined || it.isFixed ? it : { ...it, blanks: indent + it.blanks }))
-  : rope);
-
-/** The text of a rope, with these brackets, and where each place of brackets is. */
-function spelt(rope, brackets, active) {
-  let text = '';
-  const where = new Map();
-  rope.forEach((it, i) => {
-    if (typeof it === 'string') text += it;
-    else if (it.blanks !== undefined) text += rope[i + 1]?.blanks === undefined ? `\n${it.blanks}` : '\n';
-    else {
-      if (it.opens) where.set(it.number, [text.length, text.length]);
-      if (active.has(it.number)) text += brackets[it.number][it.opens ? 'opens' : 'closes'];
-      if (!it.opens) where.get(it.number)[1] = text.length;
-    }
-  });
-  return { text, where };
-}
+import { between, lines, placed } from './rope.mjs';
+import { unquoted } from './terms.mjs';
 
 /** A node has to be made anew. */
-class Anew extends Error {}
+export class Anew extends Error {}
 /** A tree is none of the language. */
-class NoTree extends Error {}
+export class NoTree extends Error {}
 
 /** What a writer knows of an old text: the nodes by their positions, the lists that they are in, and how it is written. */
-class Layout {
+export class Layout {
   constructor(language, text, { root, spans }) {
     this.origins = new Map();
     for (const node of spans.keys()) this.origins.set(node.position + node.head, node);
@@ -81,7 +33,7 @@ class Layout {
   }
 }
 
-class Writer {
+export class Writer {
   /** `isComplete` says that new text has all signs, and `isCoarse` of which nodes with another field of their own all is made anew. */
   constructor(language, text, old, { isComplete, isCoarse }) {
     const { root, spans, layout } = old;
@@ -410,133 +362,4 @@ class Writer {
     const text = unquoted(value.head);
     return kind === 'word' ? given.find(it => it.startsWith(`${text}=`))?.slice(text.length + 1) ?? '' : text;
   }
-}
-
-// ---- comparing
-
-/**
- * Where in a text the nodes of a tree are whose text it is, by these, and the nodes that differ from those of the text, if some do.
- * A block may be the brackets of a statement.
- */
-function compared(grammar, now, { root, spans }) {
-  const places = new Map();
-  const wrong = [];
-  const walk = (one, two, around) => {
-    const own = Object.hasOwn(grammar.constructors, one.head) ? one : around;
-    const { constructor } = grammar.brackets[grammar.constructors[one.head]?.sort] ?? {};
-    if (one.head !== two.head && constructor === two.head && two.kids.at(-1)?.kids.length === 1) return walk(one, two.kids.at(-1).kids[0], own);
-    if (spans.has(two)) places.set(one, spans.get(two));
-    if (one.head !== two.head || one.kids.length !== two.kids.length) return wrong.push(own);
-    return one.kids.forEach((kid, i) => walk(kid, two.kids[i], own));
-  };
-  walk(now, root, now);
-  return { places, wrong };
-}
-
-/** The comments of a text, outside of its words and literals. */
-function commentsOf({ comment, grammar }, text, { spans }) {
-  const atoms = [...spans].filter(([node]) => grammar.atoms.has(node.head)).map(([, it]) => it);
-  const isInAtom = (place, last) => atoms.some(it => it[0] <= place && last <= it[1]);
-  return [...text.matchAll(comment)].filter(it => !isInAtom(it.index, it.index + 1)).map(it => it[0]);
-}
-
-/** Those comments of one text that another lacks. */
-function lost(before, after) {
-  const left = [...after];
-  return before.filter(it => {
-    const at = left.indexOf(it);
-    if (at >= 0) left.splice(at, 1);
-    return at < 0;
-  });
-}
-
-// ---- the brackets that are needed
-
-class Search {
-  constructor(writer, now) {
-    this.writer = writer;
-    this.now = now;
-    this.plain = withoutPositions(String(now));
-    this.rope = writer.slot(writer.root, now, true);
-    this.numbers = new Map(writer.marked.map((node, i) => [node, i]));
-  }
-
-  tried(active) {
-    const { text, where } = spelt(this.rope, this.writer.brackets, active);
-    const parsed = this.writer.language.parse(text);
-    if (!parsed.root) return { text, where, parsed, wrong: [this.now] };
-    return { text, where, parsed, ...compared(this.writer.grammar, this.now, parsed) };
-  }
-
-  /** The text with the brackets that it needs, or with which it is still wrong. */
-  found() {
-    let active = new Set();
-    let result = this.tried(active);
-    for (let i = 0; i < TRIES && result.wrong.length; i++) {
-      const more = this.more(result, active);
-      if (!more.length) break;
-      active = new Set([...active, ...more]);
-      result = this.tried(active);
-    }
-    return result.wrong.length || active.size < 2 ? result : this.fewer(active, result);
-  }
-
-  // The brackets to try next: those around the parts of what is wrong, then around it, then all.
-  more({ wrong, where, parsed }, active) {
-    const isFree = it => it !== undefined && !active.has(it);
-    const choices = parsed.root
-      ? [wrong.flatMap(node => node.kids.flatMap(kid => (kid.isList ? kid.kids : [kid]))), wrong].map(nodes => nodes.map(it => this.numbers.get(it)))
-      : [[...where].filter(([, [first, last]]) => first <= parsed.place && parsed.place <= last).map(([it]) => it)];
-    return [...choices, [...where.keys()]].map(it => it.filter(isFree)).find(it => it.length) ?? [];
-  }
-
-  // Without those brackets that do nothing: halves are left out, their halves, down to one.
-  fewer(active, result) {
-    let least = active;
-    const waiting = [[...active].reverse()];
-    for (let parsed = 0; parsed < FEWER && waiting.length; parsed += result.text.length) {
-      const some = waiting.shift();
-      const rest = new Set([...least].filter(it => !some.includes(it)));
-      if (this.isRight(rest)) least = rest;
-      else if (some.length > 1) waiting.push(some.slice(0, some.length >> 1), some.slice(some.length >> 1));
-    }
-    return least === active ? result : this.tried(least);
-  }
-
-  // A block that is a bracket is in the tree of the text alone.
-  isRight(active) {
-    const { text } = spelt(this.rope, this.writer.brackets, active);
-    if (this.writer.language.plain(text) === this.plain) return true;
-    return [...active].some(it => this.writer.brackets[it].constructor) && !this.tried(active).wrong.length;
-  }
-}
-
-// First as the text is written, then with the signs that it does without, then with nodes made anew: where it is wrong, and everywhere.
-const WAYS = [
-  () => ({ isComplete: false, isCoarse: () => false }),
-  () => ({ isComplete: true, isCoarse: () => false }),
-  wrong => ({ isComplete: true, isCoarse: node => wrong.includes(node) }),
-  () => ({ isComplete: true, isCoarse: () => true }),
-];
-
-/**
- * Writes a tree as a text of a language. `old` is what that text was parsed to which some of its nodes are of. Returns `{text, places, lost}`:
- * where in the text each node is, and the comments that it lacks; or `{fault, wrong}`, why no text was found and the node that has none.
- */
-export function written(language, text, old, now) {
-  if (String(now) === old.term) return { text, places: compared(language.grammar, now, old).places, lost: [] };
-  old.layout ??= new Layout(language, text, old);
-  old.comments ??= commentsOf(language, text, old);
-  let result;
-  for (const way of WAYS) {
-    try {
-      result = new Search(new Writer(language, text, old, way(result?.wrong)), now).found();
-    } catch (fault) {
-      if (fault instanceof NoTree || fault instanceof Anew) return { fault: `It is no tree of ${language.title}: ${fault.message}.`, wrong: now };
-      throw fault;
-    }
-    if (!result.wrong.length) return { text: result.text, places: result.places, lost: lost(old.comments, commentsOf(language, result.text, result.parsed)) };
-  }
-  const why = result.parsed.root ? 'what it spells is another tree' : result.parsed.message;
-  return { fault: `No text of ${language.title} was found for the tree: ${why}.`, wrong: result.wrong[0] };
 }
