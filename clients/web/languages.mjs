@@ -87,32 +87,33 @@ class Language {
   parse(text) {
     if (!this.kept.has(text)) {
       if (this.kept.size === KEPT) this.kept.delete(this.kept.keys().next().value);
-      this.kept.set(text, this.parsed(text));
+      this.kept.set(text, this.shallow(text) ?? { place: 0, message: 'it is nested too deep' });
     }
     return this.kept.get(text);
   }
 
+  // What a text is parsed to, or nothing where the browser's stack is too small for it.
+  shallow(text) {
+    try {
+      return this.parsed(text);
+    } catch (fault) {
+      if (fault instanceof RangeError) return undefined;
+      throw fault;
+    }
+  }
+
   /** The term of a text without positions, or nothing where the text is no program. */
   plain(text) {
-    const { term } = this.answer(text, at => at, false);
+    const { term } = this.front(this.kind, false, text, at => at);
     return term && withoutPositions(asPrinted(term));
   }
 
   parsed(text) {
     const [byte, unit] = bytesOf(text);
-    const found = this.answer(text, byte, true);
+    const found = this.front(this.kind, true, text, byte);
     if (found.term === undefined) return { place: unit(found.place), message: found.message };
     const term = asPrinted(found.term);
     const root = readTerm(term);
     return { term, root, spans: placesOf(root, text) };
-  }
-
-  answer(text, byte, isPlaced) {
-    try {
-      return this.front(this.kind, isPlaced, text, byte);
-    } catch (fault) {
-      if (fault instanceof RangeError) return { place: 0, message: 'it is nested too deep' };
-      throw fault;
-    }
   }
 }

@@ -851,9 +851,9 @@ def try_source_in_json(page):
     same(diff(page), [['"level": "info", // or "debug"', '"file": null'], ['"level": "warn", // or "debug"', '"file": null,', '"keep": 30']])
     has(page.editor(SOURCE), "// How the service begins. It is read once.")
     same(page.said("source"), "")
-    for text, said in (('{"a": 1,, }', "a key is wanted"), ("[1 2]", "a comma is wanted"), ('{"a" 1}', "a colon is wanted"), ("[1] 2", "something comes after"), ('["\\x"]', "wrong escape"), ("", "a value is wanted"), ("[tru]", "no JSON begins here")):
+    for text, said in (('{"a": 1,, }', "a key is wanted"), ("[1 2]", "a comma is wanted"), ('{"a" 1}', "a colon is wanted"), ("[1] 2", "something comes after"), ('["\\x"]', "wrong escape"), ("", "a value is wanted"), ("[tru]", "no JSON begins here"), ("[" * 20000 + "]" * 20000, "it is nested too deep")):
         page.editor(SOURCE, text)
-        page.until(lambda: said in page.said("source"), f"{said} is said of {text}")
+        page.until(lambda: said in page.said("source"), f"{said} is said of {text[:20]}")
 
 
 @with_parser
