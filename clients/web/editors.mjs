@@ -119,8 +119,10 @@ export function makeEditor(field, { mode, changed, complete, explain, moved, num
       editor.setCursor({ line: line - 1, ch: unitsBefore(editor.getLine(line - 1) ?? '', column) });
       editor.scrollIntoView(null, 60);
     },
-    /** Marks what is between two places, and brings it into view. */
+    /** Marks what is between two places, and brings it into view where it wasn't marked. */
     choose(first, last) {
+      const there = chosen?.find();
+      if (there && editor.indexFromPos(there.from) === first && editor.indexFromPos(there.to) === last) return;
       chosen?.clear();
       chosen = undefined;
       if (first === last) return;

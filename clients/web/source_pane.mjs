@@ -19,21 +19,21 @@ export class SourcePane {
 
   /** Shows the source of a tree, if it has one, with what is at a path marked. */
   show(name, path) {
-    this.source = name && sourceOf(name);
-    byId('source-pane').hidden = !this.source;
-    byId('panes').classList.toggle('with-source', Boolean(this.source));
-    if (!this.source) {
-      this.showDiff([]);
-      return;
-    }
+    const source = name ? sourceOf(name) : undefined;
+    // what is there may be shown again and again, as a strategy is typed
+    const isNew = source !== this.source;
+    this.source = source;
+    byId('source-pane').hidden = !source;
+    byId('panes').classList.toggle('with-source', Boolean(source));
+    if (isNew) this.showDiff(!source || source.before === source.text ? [] : hunksOf(source.before, source.text));
+    if (!source) return;
     const { title, mode } = page.languages[languageOf(name)] ?? { title: languageOf(name), mode: null };
     byId('source-language').textContent = title;
     this.editor.mode = mode;
-    this.editor.value = this.source.text;
+    this.editor.value = source.text;
     this.editor.label = `Source of ${name}, in ${title}`;
-    this.editor.refresh();
-    this.sayAll(title);
-    this.showDiff(this.source.before === this.source.text ? [] : hunksOf(this.source.before, this.source.text));
+    if (isNew) this.editor.refresh();
+    if (isNew || !byId('source-said').hasChildNodes()) this.sayAll(title);
     this.mark(path);
   }
 
