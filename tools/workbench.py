@@ -42,6 +42,13 @@ class Ended(Exception):
     """A run that ended in a way that no run may."""
 
 
+def library():
+    """Returns the command that loads the library, from the source of the program."""
+    with open(f"{TOP}/crates/session_loading/src/library.rt", "rb") as it:
+        [text] = re.findall(rb'LIBRARY: &\[u8\] = b"(.*?)";', it.read(), re.DOTALL)
+    return b"module library\n " + text
+
+
 def word_of(command):
     """Returns the first word of a command."""
     return command.split()[0] if command.split() else b""
