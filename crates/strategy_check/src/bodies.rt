@@ -37,7 +37,8 @@ pub fn resolve_strategy<M: Meaning>(
     ensures scope { OnOk result (scope.new ≡ scope.old) }
 {
     let form = resolve_form(alloc, table, primitives, scope, strategy)?;
-    Ok(ResolvedStrategy::new(form).at(scope.text(), strategy.place()))
+    let resolved = ResolvedStrategy::new(form).at(scope.text(), strategy.place());
+    resolved.indexed(alloc)
 }
 
 // Each level of a strategy takes a frame of the machine's stack here. It stays small because the

@@ -267,7 +267,7 @@ fn join(alloc: Global, bodies: Vec<ResolvedStrategy>) -> Result<ResolvedStrategy
     while let Some(body) = bodies.pop() {
         let id = ResolvedStrategy::new(ResolvedForm::Id);
         let parts = Box::new(alloc, (body, id, whole))?;
-        whole = ResolvedStrategy::new(ResolvedForm::Guard(parts));
+        whole = ResolvedStrategy::new(ResolvedForm::Guard(parts)).indexed(alloc)?;
     }
     Ok(whole)
 }

@@ -25,6 +25,7 @@ pub mod FormLemmas
 pub mod ResultLemmas
 pub mod ArgumentLemmas
 pub mod HeadLemmas
+pub mod ApartLemmas
 pub mod LengthLemmas
 pub mod RuleLemmas
 pub mod ChoiceLemmas

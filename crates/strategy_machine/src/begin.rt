@@ -11,7 +11,7 @@ ghost use Rattle.strategy_machine.specs.inside.Taking.{Takes, TakeFalls};
 use crate::calls::{take_call, take_param, take_prim, take_rec, take_scope};
 use crate::children::{go_over, take_all, try_on};
 use crate::congruence::{take_child, take_congruence, take_tail};
-use crate::forms::{take_build, take_guard, take_match, take_seq, take_test};
+use crate::forms::{take_build, take_choice, take_match, take_seq, take_test};
 use crate::frames::Turned;
 use crate::machine::{Host, Machine};
 use crate::names::start_of;
@@ -65,7 +65,11 @@ fn take<'t, M: Meaning>(
         Form::Match(pattern) => take_match(alloc, m, pattern, scope),
         Form::Build(pattern) => take_build(alloc, host.room, m, pattern, scope),
         Form::Seq(parts) => take_seq(alloc, m, &parts.0, &parts.1, scope),
-        Form::Guard(parts) => take_guard(alloc, host, m, &parts.0, &parts.1, &parts.2, scope),
+        Form::Guard(parts) => {
+            take_choice(
+                alloc, host, m, strategy, &parts.0, &parts.1, &parts.2, scope,
+            )
+        }
         Form::Test(inner) => take_test(m, inner, scope),
         Form::Scope(count, inner) => take_scope(alloc, host.room, m, *count, inner, scope),
         Form::Param(name) => Ok(take_param(m, *name, scope)),

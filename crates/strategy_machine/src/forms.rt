@@ -13,7 +13,7 @@ ghost use Rattle.strategy_machine.specs.Turns.{world_of};
 ghost use Rattle.strategy_machine.specs.inside.Missing.{Shows};
 ghost use Rattle.strategy_machine.specs.inside.Taking.{Takes, TakeFalls, Replaced};
 
-use crate::alternatives::after_rules;
+use crate::alternatives::{after_first, after_rules};
 use crate::children::go_in;
 use crate::choices::{rewrite_or, rule_of, rule_or};
 use crate::frames::{Turned, drop_value, put};
@@ -236,6 +236,34 @@ fn match_first<'t>(
     } else {
         Ok(m.fails())
     }
+}
+
+/// A guarded choice. Alternatives that it knows not to match are passed over at once.
+#[inline(always)]
+pub(crate) fn take_choice<'t, M: Meaning>(
+    alloc: Global,
+    host: &Host<'t, M>,
+    m: &mut Machine<'t>,
+    whole: &'t ResolvedStrategy,
+    first: &'t ResolvedStrategy,
+    second: &'t ResolvedStrategy,
+    other: &'t ResolvedStrategy,
+    scope: usize,
+) -> Result<Turned, NoMemory>
+    requires there { scope < length (scopes_of m.old.scopes) }
+    requires room { host.now.room ≤ MAX_ROOM }
+    requires whole { whole.now ≡ guard first.now second.now other.now }
+    ensures ok { IfOk result (λ next. Takes (world_of M.meaning host.now.definitions.now host.now.primitives.now host.now.room)
+        m.old (guard first.entry.now second.entry.now other.entry.now) scope m.old.part m.new next) }
+    ensures less { IfOk result (λ next. TakeFalls m.old m.new next) }
+{
+    if whole.is_indexed() {
+        if let Some(rest) = after_first(whole, &m.part, m.steps) {
+            m.steps = rest.1;
+            return Ok(m.goes_on(rest.0, scope));
+        }
+    }
+    take_guard(alloc, host, m, first, second, other, scope)
 }
 
 /// A guarded choice. If its first branch is a match and a build, or a rule, that is done at once,

@@ -11,11 +11,12 @@ ghost use Rattle.strategy_meaning.specs.Matching.{is_integer as is_this_integer,
 ghost use Rattle.strategy_syntax.specs.Resolved.{compound, resolved_patterns_of};
 ghost use Rattle.strategy_machine.specs.inside.Missing.{Misses, FailsAhead, Shows};
 
-use crate::alternatives::{after_rules, left_side};
+use crate::alternatives::after_rules;
 use crate::congruence::{is_list_from, is_over};
 use crate::scopes::Scopes;
 use strategy_syntax::{
     Head, Resolved, ResolvedForm as Form, ResolvedPattern, ResolvedPatternForm, ResolvedStrategy,
+    left_side,
 };
 use term_core::Kind;
 use term_values::Part;

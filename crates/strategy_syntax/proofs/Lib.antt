@@ -3,3 +3,4 @@ pub mod StrategyLemmas
 pub mod ResolvedPatternLemmas
 pub mod ResolvedLemmas
 pub mod RenumberingLemmas
+pub mod SkippingLemmas

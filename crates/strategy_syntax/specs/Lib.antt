@@ -9,4 +9,5 @@ pub mod StrategyView
 pub mod ResolvedPatternView
 pub mod ResolvedView
 pub mod Renumbering
+pub mod Apart
 pub mod inside

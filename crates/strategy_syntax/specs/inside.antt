@@ -7,5 +7,6 @@ pub mod ResolvedPatternFalls
 pub mod ResolvedCodes
 pub mod ResolvedDepth
 pub mod ResolvedFalls
+pub mod Skipping
 pub mod StrategyDepth
 pub mod StrategyFalls

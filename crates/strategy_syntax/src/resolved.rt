@@ -1,12 +1,17 @@
 //! Resolved strategies: strategies with numbers for names.
 
-ghost use Rattle.std.specs.Prelude.{◌≡◌};
+ghost use Rattle.std.specs.Prelude.{◌≡◌, ◌≢◌, ℕ, IfOk};
+ghost use Rattle.std.specs.declared.option.Option.{Option};
 ghost use Rattle.strategy_syntax.specs.Resolved.{resolveds_of};
 ghost use Rattle.strategy_syntax.specs.ResolvedView.{resolved_of};
+ghost use Rattle.strategy_syntax.specs.Apart.{AreApart};
 ghost use Rattle.strategy_syntax.specs.Renumbering.{new_number, renumbered, all_renumbered};
 
+use crate::skips::{Skips, skips_in};
 use crate::{Head, Place, ResolvedPattern};
+use std::alloc::Global;
 use std::marker::Model;
+use term_core::NoMemory;
 
 /// A whole resolved strategy: the body of a definition, or a strategy to apply.
 #[derive(Drop)]
@@ -27,6 +32,8 @@ pub struct ResolvedStrategy {
     // Where it stands, and in which text. Contracts see neither.
     place: Place,
     text: u32,
+    // What tells its alternatives apart, if it is a choice among rules. Contracts don't see it.
+    skips: Option<Box<Skips>>,
 }
 
 /// The forms of a resolved strategy.
@@ -85,6 +92,10 @@ impl Model for ResolvedStrategy {
 
     ghost view = { λ a. resolved_of a.form };
 
+    ghost use Rattle.strategy_syntax.specs.inside.Skipping.{Kept};
+
+    ghost invariant = { λ a. Kept a.skips (resolved_of a.form) };
+
     ghost size = { depth };
 
     ghost use Rattle.strategy_syntax.specs.inside.ResolvedFalls.{depth_le-resolved};
@@ -101,6 +112,7 @@ impl ResolvedStrategy {
             form,
             place: Place::nowhere(),
             text: 0,
+            skips: None,
         }
     }
 
@@ -112,6 +124,63 @@ impl ResolvedStrategy {
             place,
             text,
             ..self
+        }
+    }
+
+    /// The same resolved strategy. If it is a choice among rules, it then knows which of them a term
+    /// can't match.
+    pub fn indexed(self, alloc: Global) -> Result<ResolvedStrategy, NoMemory>
+        ensures { IfOk result (λ same. same ≡ self) }
+    {
+        let Some(skips) = skips_in(&self.form) else {
+            return Ok(self);
+        };
+        match Box::new(alloc, skips) {
+            Ok(skips) => Ok(ResolvedStrategy {
+                skips: Some(skips),
+                ..self
+            }),
+            Err(_) => {
+                drop(self);
+                Err(NoMemory)
+            }
+        }
+    }
+
+    /// Whether it knows which alternatives a term can't match.
+    #[inline(always)]
+    pub fn is_indexed(&self) -> bool {
+        self.skips.is_some()
+    }
+
+    /// The child to ask of terms whose root has this class.
+    #[inline(always)]
+    pub fn child_to_ask(&self, root: u8) -> Option<usize> {
+        match &self.skips {
+            Some(skips) => skips.child_to_ask(root),
+            None => None,
+        }
+    }
+
+    /// How many of the first alternatives no term matches whose root has this class, and whose child
+    /// at an index, if one is given.
+    #[inline(always)]
+    pub fn skipped(&self, root: u8, child: Option<(usize, u8)>) -> u8
+        ensures { AreApart result self.now root child }
+    {
+        match &self.skips {
+            Some(skips) => skips.count(root, child),
+            None => 0,
+        }
+    }
+
+    /// How many of the first alternatives no term matches whose root has another class.
+    pub(crate) fn skipped_for_others(&self, root: u8) -> u8
+        ensures { (r : ℕ) (c : Option (ℕ × ℕ)) → r ≢ root → AreApart result self.now r c }
+    {
+        match &self.skips {
+            Some(skips) => skips.count_for_others(root),
+            None => 0,
         }
     }
 
@@ -137,38 +206,45 @@ impl ResolvedStrategy {
     pub fn renumber(&mut self, numbers: &[usize])
         ensures { self.new ≡ renumbered numbers.now self.old }
     {
-        match &mut self.form {
-            ResolvedForm::Id
-            | ResolvedForm::Fail
-            | ResolvedForm::Match(_)
-            | ResolvedForm::Build(_)
-            | ResolvedForm::Param(_)
-            | ResolvedForm::Prim(_, _) => {}
-            ResolvedForm::Seq(parts) => {
-                parts.0.renumber(numbers);
-                parts.1.renumber(numbers);
-            }
-            ResolvedForm::Guard(parts) => {
-                parts.0.renumber(numbers);
-                parts.1.renumber(numbers);
-                parts.2.renumber(numbers);
-            }
-            ResolvedForm::Test(part) => part.renumber(numbers),
-            ResolvedForm::Scope(_, part) => part.renumber(numbers),
-            ResolvedForm::All(part) => part.renumber(numbers),
-            ResolvedForm::One(part) => part.renumber(numbers),
-            ResolvedForm::Some(part) => part.renumber(numbers),
-            ResolvedForm::Child(_, part) => part.renumber(numbers),
-            ResolvedForm::Rec(part) => part.renumber(numbers),
-            ResolvedForm::Call(number, parts, _) => {
-                *number = renumbered_call(numbers, *number);
-                renumber_all(parts, numbers);
-            }
-            ResolvedForm::Congruence(_, parts) => renumber_all(parts, numbers),
-            ResolvedForm::TailCongruence(parts, part) => {
-                renumber_all(parts, numbers);
-                part.renumber(numbers);
-            }
+        renumber_form(&mut self.form, numbers);
+    }
+}
+
+#[cycle(renumbering)]
+fn renumber_form(form: &mut ResolvedForm, numbers: &[usize])
+    ensures { resolved_of form.new ≡ renumbered numbers.now (resolved_of form.old) }
+{
+    match form {
+        ResolvedForm::Id
+        | ResolvedForm::Fail
+        | ResolvedForm::Match(_)
+        | ResolvedForm::Build(_)
+        | ResolvedForm::Param(_)
+        | ResolvedForm::Prim(_, _) => {}
+        ResolvedForm::Seq(parts) => {
+            parts.0.renumber(numbers);
+            parts.1.renumber(numbers);
+        }
+        ResolvedForm::Guard(parts) => {
+            parts.0.renumber(numbers);
+            parts.1.renumber(numbers);
+            parts.2.renumber(numbers);
+        }
+        ResolvedForm::Test(part) => part.renumber(numbers),
+        ResolvedForm::Scope(_, part) => part.renumber(numbers),
+        ResolvedForm::All(part) => part.renumber(numbers),
+        ResolvedForm::One(part) => part.renumber(numbers),
+        ResolvedForm::Some(part) => part.renumber(numbers),
+        ResolvedForm::Child(_, part) => part.renumber(numbers),
+        ResolvedForm::Rec(part) => part.renumber(numbers),
+        ResolvedForm::Call(number, parts, _) => {
+            *number = renumbered_call(numbers, *number);
+            renumber_all(parts, numbers);
+        }
+        ResolvedForm::Congruence(_, parts) => renumber_all(parts, numbers),
+        ResolvedForm::TailCongruence(parts, part) => {
+            renumber_all(parts, numbers);
+            part.renumber(numbers);
         }
     }
 }

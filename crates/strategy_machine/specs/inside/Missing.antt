@@ -1,8 +1,9 @@
 -- Failures that the root of a term shows, whatever the variables are bound to.
-use Rattle.std.specs.Prelude.{◌≡◌, ℕ, List, None, Some, ⊤}
+use Rattle.std.specs.Prelude.{◌≡◌, ℕ, List, slice_get, None, Some, ⊤}
 use Rattle.std.specs.declared.option.Option.{Option}
-use Rattle.term_core.specs.Tree.{Tree}
+use Rattle.term_core.specs.Tree.{Tree, children}
 use Rattle.strategy_syntax.specs.Resolved.{ResolvedPattern, ResolvedStrategy}
+use Rattle.strategy_syntax.specs.Apart.{tree_class, AreApart}
 use Rattle.strategy_syntax.specs.declared.resolved.Resolved.{Resolved}
 use Rattle.strategy_meaning.specs.Scopes.{Scope, stands_for}
 use Rattle.strategy_meaning.specs.Matching.{Bindings, match_pattern}
@@ -36,3 +37,15 @@ pub record FailsAhead (ds : List Resolved) (known : List Scope) (n : Option ℕ)
 -- With b steps s has the answer on the term that r has with c steps, wherever it is run.
 pub record Passes (s : ResolvedStrategy) (b : ℕ) (t : Tree) (r : ResolvedStrategy) (c : ℕ) : Type 0 where
   pub same : (W : World) (E : Scope) (l : ℕ) (B : Bindings) → run W E l s b B t ≡ run W E l r c B t
+
+-- the classes of the term's root, and of its child at an index, if one is given
+abbrev pub Suits : Tree → ℕ → Option (ℕ × ℕ) → Type 0
+Suits t r None = tree_class t ≡ r
+Suits t r (Some (i, c)) = (tree_class t ≡ r) × (u : Tree) × (slice_get (children t) i ≡ Some u) × (tree_class u ≡ c)
+
+-- the first n alternatives are rules, or like them, that classes of the term rule out
+pub record SkipsOver (n : ℕ) (s : ResolvedStrategy) (t : Tree) : Type 0 where
+  pub root : ℕ
+  pub child : Option (ℕ × ℕ)
+  pub suits : Suits t root child
+  pub apart : AreApart n s root child

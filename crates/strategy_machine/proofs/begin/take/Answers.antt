@@ -24,7 +24,7 @@ pub returns-in-Seq-clause-ok : goal.returns-in-Seq-clause-ok
 returns-in-Seq-clause-ok g c = taken_form (world_of g.M.Meaning.meaning c.args.host.now.definitions.now c.args.host.now.primitives.now c.args.host.now.room) c.args.m.now c.take_seq.new.m c.args.strategy.now _ c.args.scope c.args.m.now.part c.take_seq.result ((c.form.ensures ∙ ap resolved_of c.in-Seq.is ∙ (λ i. seq (sym (ap (λ x. x.0) c.deref.ensures) i) (sym (ap (λ x. x.1) c.deref-in-Seq.ensures) i)))) (c.take_seq.ensures.ok (world_of g.M.Meaning.meaning c.args.host.now.definitions.now c.args.host.now.primitives.now c.args.host.now.room))
 
 pub returns-in-Guard-clause-ok : goal.returns-in-Guard-clause-ok
-returns-in-Guard-clause-ok g c = taken_form (world_of g.M.Meaning.meaning c.args.host.now.definitions.now c.args.host.now.primitives.now c.args.host.now.room) c.args.m.now c.take_guard.new.m c.args.strategy.now _ c.args.scope c.args.m.now.part c.take_guard.result ((c.form.ensures ∙ ap resolved_of c.in-Guard.is ∙ (λ i. guard (sym (ap (λ x. x.0) c.deref-in-Guard.ensures) i) (sym (ap (λ x. x.1) c.deref-in-Guard-2.ensures) i) (sym (ap (λ x. x.2) c.deref-in-Guard-3.ensures) i)))) (c.take_guard.ensures.ok)
+returns-in-Guard-clause-ok g c = taken_form (world_of g.M.Meaning.meaning c.args.host.now.definitions.now c.args.host.now.primitives.now c.args.host.now.room) c.args.m.now c.take_choice.new.m c.args.strategy.now _ c.args.scope c.args.m.now.part c.take_choice.result ((c.form.ensures ∙ ap resolved_of c.in-Guard.is ∙ (λ i. guard (sym (ap (λ x. x.0) c.deref-in-Guard.ensures) i) (sym (ap (λ x. x.1) c.deref-in-Guard-2.ensures) i) (sym (ap (λ x. x.2) c.deref-in-Guard-3.ensures) i)))) (c.take_choice.ensures.ok)
 
 pub returns-in-Test-clause-ok : goal.returns-in-Test-clause-ok
 returns-in-Test-clause-ok g c = taken_form (world_of g.M.Meaning.meaning c.args.host.now.definitions.now c.args.host.now.primitives.now c.args.host.now.room) c.args.m.now c.take_test.new.m c.args.strategy.now _ c.args.scope c.args.m.now.part c.take_test.result ((c.form.ensures ∙ ap resolved_of c.in-Test.is ∙ ap test (sym c.deref-in-Test.ensures))) (c.take_test.ensures.ok (world_of g.M.Meaning.meaning c.args.host.now.definitions.now c.args.host.now.primitives.now c.args.host.now.room))
@@ -69,3 +69,6 @@ returns-in-Prim-clause-ok g c = taken_form (world_of g.M.Meaning.meaning c.args.
 
 pub take_rec-requires-clause-whole : goal.take_rec-requires-clause-whole
 take_rec-requires-clause-whole g c = (c.form.ensures ∙ ap resolved_of c.in-Rec.is ∙ ap rec (sym c.deref-in-Rec.ensures))
+
+pub take_choice-requires-clause-whole : goal.take_choice-requires-clause-whole
+take_choice-requires-clause-whole g c = c.form.ensures ∙ ap resolved_of c.in-Guard.is ∙ (λ i. guard (sym (ap (λ x. x.0) c.deref-in-Guard.ensures) i) (sym (ap (λ x. x.1) c.deref-in-Guard-2.ensures) i) (sym (ap (λ x. x.2) c.deref-in-Guard-3.ensures) i))

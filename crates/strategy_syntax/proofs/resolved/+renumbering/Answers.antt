@@ -1,8 +1,11 @@
-use Rattle.std.proofs.Common.{rules, ◌≡◌, ℕ, ◌+◌, ◌<◌, ◌≤◌, length, List, [], ◌∷◌, ◌++◌, slice_index_or, slice_set, get_or, refl, ap, sym, ◌∙◌, arith}
+use Rattle.std.proofs.Common.{rules, ◌<◌, length, slice_set, get_or, ap, sym, subst, ◌∙◌, arith}
 use Rattle.strategy_syntax.specs.Resolved.{resolveds_of}
 use Rattle.strategy_syntax.specs.ResolvedView.{resolved_of}
 use Rattle.strategy_syntax.specs.inside.ResolvedDepth.{depth}
-use Rattle.strategy_syntax.specs.Renumbering.{new_number, renumbered, all_renumbered}
+use Rattle.strategy_syntax.specs.Renumbering.{renumbered}
+use Rattle.strategy_syntax.specs.inside.Skipping.{Kept}
+use Rattle.strategy_syntax.specs.Resolved.{ResolvedStrategy}
+use Rattle.strategy_syntax.proofs.SkippingLemmas.{kept_renumbered}
 use Rattle.strategy_syntax.proofs.RenumberingLemmas.{partly, partly-none, partly-all, partly-length, partly-at, partly-set, shallow}
 use Rattle.strategy_syntax.proofs.resolved.+renumbering.Goals as goal
 
@@ -36,3 +39,7 @@ renumber_all-returns t c =
     ap resolveds_of c.loop-i.invariant
     ∙ partly-all c.args.numbers.now c.loop-i.i c.args.parts.now.items
     (omega (arith, c.loop-i-test.false, ap length c.loop-i.invariant, partly-length c.args.numbers.now c.loop-i.i c.args.parts.now.items))
+
+pub ResolvedStrategy::renumber-invariant_of-self : goal.ResolvedStrategy::renumber-invariant_of-self
+ResolvedStrategy::renumber-invariant_of-self t c =
+    subst (λ (s : ResolvedStrategy). Kept c.self.inside.skips s) (sym c.renumber_form.ensures) (kept_renumbered c.args.numbers.now c.self.inside.skips (resolved_of c.self.inside.form) c.self.invariant)
