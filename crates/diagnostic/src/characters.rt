@@ -1,7 +1,8 @@
 //! The characters and lines of a text in UTF-8. In other bytes each begins a character, but for
 //! those from 128 to 191.
 
-ghost use Rattle.std.specs.Prelude.{◌≡◌, ◌≤◌, ◌-◌, length, take, drop};
+ghost use Rattle.std.specs.Prelude.{◌≡◌, ◌≤◌, ◌-◌, ◌∷◌, [], eqb, length, take, drop};
+ghost use Rattle.std.specs.List.{starts_with};
 
 // Whether a character begins with the byte, in UTF-8.
 fn begins_character(byte: u8) -> bool {
@@ -102,6 +103,8 @@ pub fn place_of(text: &[u8], first: u64, at: usize) -> TextPlace<'_>
 }
 
 /// Whether the text begins with a byte order mark.
-pub fn begins_with_mark(text: &[u8]) -> bool {
+pub fn begins_with_mark(text: &[u8]) -> bool
+    ensures { result ≡ starts_with eqb text.now (239 ∷ 187 ∷ 191 ∷ []) }
+{
     text.starts_with(b"\xef\xbb\xbf")
 }

@@ -222,7 +222,9 @@ impl Diagnostic {
     }
 
     /// Takes what was written so far for the answer that is explained. The message follows.
-    pub fn end_answer(&mut self) {
+    pub fn end_answer(&mut self)
+        ensures { (self.new.severity ≡ self.old.severity) × (self.new.code ≡ self.old.code) }
+    {
         if let Some(line) = self.lines.last_mut() {
             line.kind = LineKind::Answer;
         }
@@ -230,7 +232,9 @@ impl Diagnostic {
     }
 
     /// Says in front of the message that it is about the command of this word and name.
-    pub fn set_subject(&mut self, word: &[u8], name: &[u8]) {
+    pub fn set_subject(&mut self, word: &[u8], name: &[u8])
+        ensures { (self.new.severity ≡ self.old.severity) × (self.new.code ≡ self.old.code) }
+    {
         let mut subject = self.keep_bytes(word);
         let _ = self.keep_bytes(b" ");
         subject.end = self.keep_bytes(name).end;
@@ -238,23 +242,31 @@ impl Diagnostic {
     }
 
     /// Begins a line that says more.
-    pub fn note(&mut self) {
+    pub fn note(&mut self)
+        ensures { (self.new.severity ≡ self.old.severity) × (self.new.code ≡ self.old.code) }
+    {
         self.begin(LineKind::Note);
     }
 
     /// Begins a line on a further fault.
-    pub fn fault(&mut self) {
+    pub fn fault(&mut self)
+        ensures { (self.new.severity ≡ self.old.severity) × (self.new.code ≡ self.old.code) }
+    {
         self.begin(LineKind::Fault);
     }
 
     /// Begins a line that says what to do.
-    pub fn help(&mut self) {
+    pub fn help(&mut self)
+        ensures { (self.new.severity ≡ self.old.severity) × (self.new.code ≡ self.old.code) }
+    {
         self.begin(LineKind::Help);
     }
 
     /// Says that a tool may put these bytes in the place of a span of the command's text. That is what
     /// the line says.
-    pub fn replace(&mut self, span: Option<Span>, with: &[u8]) {
+    pub fn replace(&mut self, span: Option<Span>, with: &[u8])
+        ensures { (self.new.severity ≡ self.old.severity) × (self.new.code ≡ self.old.code) }
+    {
         if let Some(span) = span {
             let with = self.keep_bytes(with);
             if let Some(line) = self.lines.last_mut() {
@@ -264,12 +276,17 @@ impl Diagnostic {
     }
 
     /// Notes that the text ends too early: the place that is spoken of is what is open at its end.
-    pub fn note_end(&mut self) {
+    pub fn note_end(&mut self)
+        ensures kept { (self.new.severity ≡ self.old.severity) × (self.new.code ≡ self.old.code) }
+        ensures end { self.new.ends ≡ true }
+    {
         self.ends = true;
     }
 
     /// Notes in which definition of which module the cause is. The first one that is noted counts.
-    pub fn note_cause(&mut self, module: &[u8], definition: &[u8]) {
+    pub fn note_cause(&mut self, module: &[u8], definition: &[u8])
+        ensures { (self.new.severity ≡ self.old.severity) × (self.new.code ≡ self.old.code) }
+    {
         if self.cause.is_none() {
             let module = self.keep_bytes(module);
             self.cause = Some((module, self.keep_bytes(definition)));
@@ -277,7 +294,9 @@ impl Diagnostic {
     }
 
     /// Notes steps that were taken in the definition of this name, or in the command.
-    pub fn add_share(&mut self, name: Option<&[u8]>, steps: u64) {
+    pub fn add_share(&mut self, name: Option<&[u8]>, steps: u64)
+        ensures { (self.new.severity ≡ self.old.severity) × (self.new.code ≡ self.old.code) }
+    {
         let name = match name {
             Some(name) => Some(self.keep_bytes(name)),
             None => None,
