@@ -99,8 +99,8 @@ impl<'t> Part<'t> {
         self.over_parts(alloc, &mut left)
     }
 
-    /// This part's root over these parts, which leave the vector. If there are one or two, the
-    /// vector keeps its memory.
+    /// This part's root over these parts. What is left in the vector isn't said: it is lent so that
+    /// a caller can use its memory again.
     #[inline(always)]
     pub fn over_parts(&self, alloc: Global, parts: &mut Vec<Part<'t>>) -> Result<Part<'t>, NoMemory>
         requires { CanHold self.now parts.old.items }
