@@ -11,7 +11,6 @@ use Rattle.term_core.specs.Terms.{IsTerm, AreTerms}
 use Rattle.aterm_text.specs.Tokens.{NextSign}
 use Rattle.aterm_text.specs.Grammar.{Optional, Reads, ReadsUntil, ReadsMore, Spells}
 use Rattle.aterm_text.specs.Printed.{assembled, bracketed, print, print_all, print_more, print_name}
-use Rattle.aterm_text.specs.Layout.{}
 use Rattle.aterm_text.proofs.LawTokens.{integer-read, name-read}
 
 -- ---- what may follow a printed term

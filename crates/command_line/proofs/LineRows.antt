@@ -4,7 +4,7 @@ use Rattle.clap.specs.Words.{Kinds, Text, first_of, one_of}
 use Rattle.clap.specs.Takes.{is_given}
 use Rattle.clap.specs.declared.error.kind.ErrorKind.TheVariants as kind
 use Rattle.clap.proofs.OnLiterals.{clap_on_literals}
-use Rattle.command_line.specs.Line.{given, line, line_fault, values}
+use Rattle.command_line.specs.Line.{given, line_fault, values}
 
 -- the flags, the files and the text of the number that these words give, and why they are refused
 record Row : Type 0 where

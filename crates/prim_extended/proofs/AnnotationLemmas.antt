@@ -1,7 +1,7 @@
 -- Terms without annotations.
 use Rattle.std.proofs.Common.{◌≡◌, ℕ, ◌+◌, ◌<◌, Bool, true, false, ◌&&◌, List, [], ◌∷◌, ◌++◌, length, take, get_or, refl, sym, ap, ◌∙◌, arith}
 use Rattle.std.proofs.lemmas.List.{take_more}
-use Rattle.term_core.specs.Tree.{Tree, Trees, integer, branch, none, more, of_list, children}
+use Rattle.term_core.specs.Tree.{Tree, integer, branch, none, more, of_list, children}
 use Rattle.term_core.specs.Size.{height, heights}
 use Rattle.term_core.proofs.TreeLemmas.{of_list-to_list}
 use Rattle.strategy_meaning.specs.Same.{same_tree, same_trees}

@@ -1,15 +1,14 @@
 -- What is taken apart is put together again.
-use Rattle.std.proofs.Common.{◌≡◌, ℕ, true, false, Bool, List, [], ◌∷◌, ◌++◌, Some, None, refl, sym, ap, ◌∙◌, subst, cond, if◌then◌else◌, arith, length}
-use Rattle.std.specs.Prelude.{◌||◌, IsTrue, nat_le, option_and_then}
+use Rattle.std.proofs.Common.{◌≡◌, ℕ, true, false, Bool, List, [], ◌∷◌, ◌++◌, Some, None, refl, ap, ◌∙◌, subst, cond, if◌then◌else◌, arith, length}
+use Rattle.std.specs.Prelude.{◌||◌, IsTrue, nat_le}
 use Rattle.std.specs.declared.option.Option.{Option}
 use Rattle.std.specs.Option.{option_map}
-use Rattle.term_core.specs.Tree.{Symbol, Head, application, list, tuple, Tree, Trees, integer, branch, none, to_list, of_list, children, bare, list_term, tuple_term}
+use Rattle.term_core.specs.Tree.{Head, application, list, tuple, Tree, Trees, integer, branch, none, to_list, of_list, children, bare, list_term, tuple_term}
 use Rattle.term_core.specs.Terms.{IsTerm}
 use Rattle.term_core.specs.Word.{is_word}
 use Rattle.term_core.proofs.TreeLemmas.{of_list-to_list, to_list-of_list}
 use Rattle.prim_core.specs.Values.{string_term}
-use Rattle.prim_extended.specs.Bytes.{list_value, string_in_range}
-use Rattle.prim_extended.specs.Constructors.{quote, name_text, constructor_in, in_quotes, head_named, made_of, parts_of, put_together_of, PartsMakeTheTerm}
+use Rattle.prim_extended.specs.Constructors.{quote, name_text, constructor_in, in_quotes, head_named, made_of, put_together_of, PartsMakeTheTerm}
 use Rattle.prim_extended.proofs.QuoteLemmas.{before_quote-append}
 
 -- ---- names

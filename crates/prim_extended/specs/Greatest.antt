@@ -1,5 +1,5 @@
 -- The primitive that finds the greatest number after a beginning of strings, for fresh names.
-use Rattle.std.specs.Prelude.{ℕ, zero, suc, pos, ◌+◌, ◌*◌, ◌-◌, ◌^◌, ◌&&◌, nat_lt, max, List, [], ◌∷◌, length, take, drop, Some, None, if◌then◌else◌, option_and_then}
+use Rattle.std.specs.Prelude.{ℕ, zero, suc, pos, ◌+◌, ◌*◌, ◌-◌, ◌^◌, ◌&&◌, nat_lt, max, List, [], ◌∷◌, length, take, drop, None, if◌then◌else◌, option_and_then}
 use Rattle.std.specs.declared.option.Option.{Option}
 use Rattle.std.specs.Char.{is_ascii_digit}
 use Rattle.std.specs.Str.{bytes_eq}

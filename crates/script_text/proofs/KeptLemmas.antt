@@ -1,5 +1,5 @@
 -- No command changes limits or primitives.
-use Rattle.std.proofs.Common.{◌≡◌, ℕ, zero, suc, ◌+◌, Some, None, Bool, true, false, ◌&&◌, List, [], ◌∷◌, length, Ok, Err, Result, refl, sym, ap, ◌∙◌, subst}
+use Rattle.std.proofs.Common.{◌≡◌, ℕ, zero, suc, ◌+◌, Some, None, Bool, true, false, ◌&&◌, List, [], ◌∷◌, length, Ok, Err, Result, refl, sym, ◌∙◌, subst}
 use Rattle.std.specs.Prelude.{⊤, is_err, is_none, ok_or, option_and_then, if◌then◌else◌}
 use Rattle.std.specs.declared.option.Option.{Option}
 use Rattle.std.specs.Option.{option_map_or}
@@ -21,7 +21,7 @@ use Rattle.session_history.specs.History.{HistoryGroup, History, stepped, change
 use Rattle.session_history.specs.Acts.{Act, set_tree as set_tree_act, copy_tree, drop_tree as drop_tree_act, put as put_act, annotate as annotate_act, set_module as set_module_act, unload as unload_act, apply as apply_act, undo as undo_act, redo as redo_act, begin as begin_act, commit as commit_act, abandon as abandon_act, ActResult, Passing, Holding, Given, Leaves, ChangesTo, ChangesModules, PutsAt, AnnotatesAt, AppliesAt, Located, ComesTo, committed, tree_of, module_text_of, place_of}
 use Rattle.session_modules.specs.declared.refusal.Refusal.{Refusal}
 use Rattle.session_modules.specs.declared.refusal.Refusal.TheVariants.{Big, NoUndo, NoRedo, Group, NoGroup}
-use Rattle.script_text.specs.Form.{Form, tree, copy, drop_tree, put, annotate, set_module, unload, apply, preview, undo, redo, begin, commit, abandon, show, pretty, diff, trees, modules, module_text, history, dump, command_of}
+use Rattle.script_text.specs.Form.{Form, tree, copy, drop_tree, put, annotate, set_module, unload, apply, preview, undo, redo, begin, commit, abandon, show, pretty, diff, modules, module_text, command_of}
 use Rattle.script_text.specs.Handed.{Handed, text, long}
 use Rattle.script_text.specs.Replies.{ReadAs, Told, done, shown, Reply, Replies, history_after, budgets_in}
 use Rattle.script_text.specs.Answer.{ReplyInRun}

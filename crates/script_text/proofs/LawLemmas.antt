@@ -1,6 +1,6 @@
 -- The replies to commands are determined, since a text spells at most one term and at most one list
 -- of annotations, and is at most one module and at most one strategy.
-use Rattle.std.proofs.Common.{◌≡◌, ◌<◌, ◌≤◌, ◌⊎◌, ℕ, Some, None, Bool, true, false, ◌&&◌, ◌+◌, ◌-◌, List, [], ◌∷◌, ◌++◌, length, Ok, Err, Result, refl, sym, ap, ◌∙◌, subst, inl, inr, arith}
+use Rattle.std.proofs.Common.{◌≡◌, ℕ, Some, None, Bool, true, false, ◌&&◌, ◌+◌, ◌-◌, List, [], ◌∷◌, length, Ok, Err, Result, refl, sym, ap, ◌∙◌, subst, inl, inr, arith}
 use Rattle.std.specs.Prelude.{is_err, is_none, ok_or, IsSomeAnd}
 use Rattle.std.specs.declared.option.Option.{Option}
 use Rattle.std.specs.List.{list_all}

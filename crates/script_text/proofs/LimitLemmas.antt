@@ -1,7 +1,7 @@
 -- With greater limits, what is accepted is accepted, too, and says the same.
-use Rattle.std.proofs.Common.{◌≡◌, ◌≤◌, ℕ, zero, suc, ◌+◌, Some, None, Bool, true, false, ◌&&◌, List, [], ◌∷◌, ◌++◌, length, map, Ok, Err, Result, refl, sym, ap, ap₂, ◌∙◌, subst, arith, if◌then◌else◌}
+use Rattle.std.proofs.Common.{◌≡◌, ℕ, zero, suc, ◌+◌, Some, None, Bool, true, false, ◌&&◌, List, [], ◌∷◌, ◌++◌, length, map, Ok, Err, Result, refl, sym, ap, ◌∙◌, subst, arith, if◌then◌else◌}
 use Rattle.std.proofs.lemmas.Bool.Decides.{nat_tests}
-use Rattle.std.specs.Prelude.{◌≢◌, codes, is_err, is_ok, is_none, ok_or, nat_le, option_map, option_and_then}
+use Rattle.std.specs.Prelude.{◌≢◌, codes, is_ok, is_none, ok_or, nat_le, option_map, option_and_then}
 use Rattle.std.specs.declared.option.Option.{Option}
 use Rattle.std.specs.Option.{option_map_or}
 use Rattle.std.specs.List.{list_all, AllByRecursion}
@@ -26,7 +26,7 @@ use Rattle.session_history.specs.History.{HistoryGroup, History, stepped, change
 use Rattle.session_history.specs.Acts.{Act, set_tree as set_tree_act, copy_tree, drop_tree as drop_tree_act, put as put_act, annotate as annotate_act, set_module as set_module_act, unload as unload_act, apply as apply_act, undo as undo_act, redo as redo_act, begin as begin_act, commit as commit_act, abandon as abandon_act, ActResult, Passing, Holding, Given, Leaves, ChangesTo, ChangesModules, PutsAt, AnnotatesAt, AppliesAt, Located, Resolving, ComesTo, committed, tree_of, module_text_of, place_of}
 use Rattle.session_history.specs.Preview.{Preview, Foresees, ForeseesAt, Previews}
 use Rattle.session_modules.specs.declared.refusal.Refusal.{Refusal}
-use Rattle.session_modules.specs.declared.refusal.Refusal.TheVariants.{Big, NoUndo, NoRedo, Group, NoGroup, Long, Memory}
+use Rattle.session_modules.specs.declared.refusal.Refusal.TheVariants.{Big, NoUndo, NoRedo, Group, NoGroup}
 use Rattle.script_text.specs.declared.command.Budgets.{Budgets}
 use Rattle.script_text.specs.declared.keyword.Keyword.{Keyword}
 use Rattle.script_text.specs.declared.keyword.Keyword.TheVariants.{Apply, Preview as PreviewWord}
@@ -34,9 +34,9 @@ use Rattle.script_text.specs.KeywordView.{keyword_at, form_after}
 use Rattle.script_text.proofs.KeywordLemmas.{form_at}
 use Rattle.script_text.specs.Script.{without_end}
 use Rattle.aterm_text.specs.Tokens.{is_blank}
-use Rattle.script_text.specs.Form.{Form, tree, copy, drop_tree, put, annotate, set_module, unload, apply, preview, undo, redo, begin, commit, abandon, show, pretty, diff, trees, modules, module_text, history, dump, front_word, after_word, has_word, option_word, after_option, path_or_root, up_to, budget_or, with_do, with_budget, strategy_form, form_of, checked, command_of}
+use Rattle.script_text.specs.Form.{Form, tree, copy, drop_tree, put, annotate, set_module, unload, apply, preview, undo, redo, begin, commit, abandon, show, pretty, diff, modules, module_text, history, front_word, after_word, has_word, option_word, after_option, path_or_root, up_to, budget_or, with_do, with_budget, strategy_form, form_of, checked, command_of}
 use Rattle.script_text.specs.Handed.{Handed, text, long}
-use Rattle.script_text.specs.Replies.{Accepted, ReadAs, Told, done, ok_with, told_of, shown, preview_text, Reply, Replies, history_after, budgets_in, written}
+use Rattle.script_text.specs.Replies.{Accepted, ReadAs, Told, done, shown, preview_text, Reply, Replies, budgets_in}
 use Rattle.script_text.specs.Answer.{ReplyInRun}
 use Rattle.script_text.specs.Run.{Replied, out}
 use Rattle.script_text.specs.Laws.{raised, raised_accepted, raised_reply, GreaterLimitsAnswerTheSame}

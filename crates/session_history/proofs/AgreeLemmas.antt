@@ -2,7 +2,7 @@
 use Rattle.std.proofs.Common.{◌≡◌, ℕ, zero, suc, ◌+◌, ◌<◌, ◌⊎◌, inl, inr, List, [], ◌∷◌, ◌++◌, length, slice_get, Some, None, set, ◌-◌, refl, sym, ap, ◌∙◌, subst, arith, append_assoc, append-nil}
 use Rattle.std.specs.Prelude.{option_and_then}
 use Rattle.std.proofs.lemmas.List.{length-append, length-set, set-append_right}
-use Rattle.term_core.specs.Tree.{Head, Tree, Trees, integer, branch, to_list, of_list, children}
+use Rattle.term_core.specs.Tree.{Head, Tree, Trees, integer, branch, to_list, of_list}
 use Rattle.term_core.proofs.TreeLemmas.{to_list-of_list, of_list-to_list}
 use Rattle.term_paths.specs.Paths.{at}
 use Rattle.term_paths.proofs.PathLemmas.{changed_at, changed_at-child, changed_at-no_child, at-child}

@@ -10,7 +10,7 @@ use Rattle.term_core.specs.Tree.{Tree}
 use Rattle.term_paths.specs.Paths.{at, set_at}
 use Rattle.term_changes.specs.Change.{Change, changed}
 use Rattle.term_changes.specs.Slots.{Store, HaveDistinctLabels, content, with_content, slot_of, contents}
-use Rattle.term_changes.specs.Entries.{Entry, subterm, put, Fits}
+use Rattle.term_changes.specs.Entries.{Entry, subterm, Fits}
 use Rattle.term_changes.specs.Exchange.{changed_in}
 use Rattle.term_changes.specs.PatchLaws.{patch_entries, patched}
 use Rattle.term_changes.proofs.SlotLemmas.{no_slot, same_content}

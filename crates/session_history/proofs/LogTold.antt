@@ -10,7 +10,7 @@ use Rattle.std.specs.Cmp.Lexicographic.{slice_cmp, pointwise, nat_list_cmp_total
 use Rattle.std.specs.FinMap as finmap
 use Rattle.std.proofs.lemmas.List.{map-append}
 use Rattle.std.proofs.lemmas.Map.Text.{is_eq-slice_cmp}
-use Rattle.term_core.specs.Tree.{Tree, integer, branch, to_list, children, annotations, with_annotations, with_child}
+use Rattle.term_core.specs.Tree.{Tree, integer, branch, to_list, children, with_annotations, with_child}
 use Rattle.term_core.proofs.TreeLemmas.{to_list-of_list}
 use Rattle.term_paths.specs.Paths.{at, set_at, set_annotations_at}
 use Rattle.term_paths.proofs.PathLemmas.{changed_at, child-with_child, set_at-changed, set_annotations_at-changed}

@@ -1,14 +1,13 @@
 -- Nothing is listed exactly where nothing changed.
 use Rattle.std.proofs.Common.{◌≡◌, ℕ, Bool, true, false, ◌||◌, List, [], ◌∷◌, ◌++◌, codes, map, Some, None, refl, sym, ap, ◌∙◌, if◌then◌else◌}
 use Rattle.std.specs.declared.option.Option.{Option}
-use Rattle.std.specs.List.{flat_map}
 use Rattle.std.specs.List.Sorted.{IsStrictlySortedBy}
 use Rattle.std.specs.Ordering.{nat_cmp, eq_by_cmp}
 use Rattle.std.specs.Cmp.Lexicographic.{slice_cmp, bytes_decides}
 use Rattle.std.specs.Str.{bytes_eq}
 use Rattle.std.specs.FinMap as finmap
 use Rattle.term_core.specs.Tree.{Tree}
-use Rattle.term_changes.specs.Contents.{Contents, Named}
+use Rattle.term_changes.specs.Contents.{Named}
 use Rattle.session_history.specs.Differences.{difference_line, differences, tree_lines, text_lines, text_line, names_of, lines_of}
 use Rattle.session_history.specs.DifferenceLaws.{all_put_back, NothingListedIsNothingChanged}
 use Rattle.session_history.proofs.BackLemmas.{differences_lead_back}

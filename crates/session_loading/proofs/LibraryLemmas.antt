@@ -18,7 +18,6 @@ use Rattle.strategy_check.specs.Faults.{Primitives}
 use Rattle.strategy_check.specs.Programs.{program}
 use Rattle.term_changes.specs.Contents.{no_contents, with_module as with_text}
 use Rattle.session_modules.specs.Modules.{Texts, ReadsAsModule, AreRead, AreModules, GivesProgram}
-use Rattle.session_modules.specs.declared.refusal.Refusal.{Refusal}
 use Rattle.session_modules.proofs.MapLemmas.{no_keys}
 use Rattle.session_modules.proofs.ReplacedLemmas.{are_given}
 use Rattle.session_history.specs.declared.limits.Limits.{Limits}

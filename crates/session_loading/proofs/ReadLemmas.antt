@@ -11,8 +11,8 @@ use Rattle.strategy_tokens.specs.declared.token.Sign.{Sign}
 use Rattle.strategy_tokens.specs.declared.token.Sign.TheVariants.{OpenRound, CloseRound, OpenSquare, CloseSquare, Semicolon, Bar, Equals, LeftChoice}
 use Rattle.strategy_parse.specs.declared.parser.state.Operator.{Operator}
 use Rattle.strategy_parse.specs.declared.parser.state.Operator.TheVariants.{All as AllOf, One as OneOf, Some as SomeOf}
-use Rattle.strategy_parse.specs.Written.{Choice, sequence, left_choice, Seq, last, before, Arrow, arrow, Prefix, identity, operator, square, square_with_tail, name, call, Choices, no_choices, and_choice, Header, Defined, definition, Section, definitions}
-use Rattle.strategy_parse.specs.Grammar.{Reading, Word, Mark, word_of, ReadsChoice, ReadsSeq, ReadsPrefix}
+use Rattle.strategy_parse.specs.Written.{Choice, sequence, left_choice, Seq, last, before, arrow, Prefix, identity, operator, square, square_with_tail, name, call, no_choices, and_choice, Defined, definition, Section, definitions}
+use Rattle.strategy_parse.specs.Grammar.{Reading, Mark, word_of, ReadsChoice, ReadsSeq, ReadsPrefix}
 use Rattle.strategy_parse.specs.GrammarModules.{ReadsAll, ReadsDefined, ReadsModule}
 
 -- What the tokens begin with, and the rest; or nothing.

@@ -1,10 +1,10 @@
 -- The text of a module from a file is one that a command can give.
-use Rattle.std.proofs.Common.{◌≡◌, ◌≤◌, ◌<◌, ◌+◌, ◌-◌, ◌⊎◌, ℕ, zero, suc, Bool, true, false, not, ◌==◌, ◌&&◌, ◌||◌, cond, List, [], ◌∷◌, ◌++◌, length, take, drop, reverse, get_or, map, refl, sym, ap, inl, inr, ◌∙◌, subst, arith, append_assoc, append-nil, if◌then◌else◌}
+use Rattle.std.proofs.Common.{◌≡◌, ◌≤◌, ◌<◌, ◌+◌, ◌-◌, ◌⊎◌, ℕ, zero, suc, Bool, true, false, ◌==◌, ◌||◌, cond, List, [], ◌∷◌, ◌++◌, length, take, drop, reverse, get_or, map, refl, sym, ap, inl, inr, ◌∙◌, subst, arith, append_assoc, append-nil}
 use Rattle.std.specs.List.{All, AllByRecursion, prefix_len, suffix_len, slice_split, onto_first, flat_map}
 use Rattle.std.proofs.lemmas.List.{drop_more, drop_all, take_all, take_more, length-take-le, reverse-append}
-use Rattle.std.proofs.lemmas.List.Elements.{All-append, All-cons, All-take}
+use Rattle.std.proofs.lemmas.List.Elements.{All-cons, All-take}
 use Rattle.std.proofs.lemmas.List.Splits.{slice_split_none, slice_split_at, slice_split-cons_yes, slice_split-cons_no}
-use Rattle.std.proofs.lemmas.List.Sums.{suffix_len-take_no, suffix_len-take_yes, suffix_len-le-length}
+use Rattle.std.proofs.lemmas.List.Sums.{suffix_len-take_no, suffix_len-take_yes}
 use Rattle.std.proofs.Math.Seq.{take-length}
 use Rattle.aterm_text.specs.Tokens.{is_blank, without_blanks}
 use Rattle.script_text.specs.Script.{begins_command, is_carriage_return, is_line_feed, pieces, without_end}

@@ -1,7 +1,7 @@
 -- All faults of modules and of strategies, in the order in which they count.
 use Rattle.std.specs.Prelude.{◌≡◌, ℕ, ◌+◌, Bool, true, false, not, ◌&&◌, ◌==◌, List, [], ◌∷◌, ◌++◌, length, map, flat_map, if◌then◌else◌, codes, is_some, Some, None, ⊤}
 use Rattle.std.specs.declared.option.Option.{Option}
-use Rattle.term_core.specs.Tree.{Symbol, Head, application, list, tuple, same_name}
+use Rattle.term_core.specs.Tree.{Symbol, Head, application, same_name}
 use Rattle.prim_core.specs.Signature as primitive
 use Rattle.strategy_syntax.specs.Syntax.{Pattern, wildcard, variable, at, number, compound, with_tail, annotated, Patterns, no_patterns, and_pattern, pattern_list, Strategy, id, fail, matches, builds, seq, guard, test, scope, uses, congruence, tail_congruence, all, one, some, child, rec, prim, Strategies, no_strategies, and_strategy, strategy_list}
 use Rattle.strategy_syntax.specs.Modules.{Definition, Module}

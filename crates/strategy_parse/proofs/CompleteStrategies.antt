@@ -4,7 +4,7 @@ use Rattle.std.specs.Prelude.{if◌then◌else◌}
 use Rattle.std.specs.declared.option.Option.{Option}
 use Rattle.term_core.specs.Tree.{Symbol, list}
 use Rattle.strategy_syntax.specs.Syntax as syntax
-use Rattle.strategy_syntax.specs.Syntax.{Pattern, wildcard, variable, at, number, compound, with_tail, annotated, no_patterns, and_pattern, pattern_list, patterns_of, Strategy, strategy_list, strategies_of}
+use Rattle.strategy_syntax.specs.Syntax.{no_patterns, and_pattern, pattern_list, patterns_of, Strategy, strategy_list, strategies_of}
 use Rattle.strategy_tokens.specs.declared.token.Token.{Token}
 use Rattle.strategy_tokens.specs.declared.token.Token.TheVariants.{Reserved, Integer, Sign as ASign, Bad}
 use Rattle.strategy_tokens.specs.declared.token.Sign.TheVariants.{OpenRound, CloseRound, Comma, Semicolon, Colon, Bar, FatArrow, Less, LeftChoice}

@@ -3,7 +3,7 @@ use Rattle.std.proofs.Common.{Bool, true, false, zero, suc, ℤ, pos, negsuc, Li
 use Rattle.std.specs.Prelude.{if◌then◌else◌}
 use Rattle.term_core.specs.Tree.{Symbol}
 use Rattle.strategy_syntax.specs.Syntax as syntax
-use Rattle.strategy_syntax.specs.Syntax.{Pattern, patterns_of, Strategy, strategies_of}
+use Rattle.strategy_syntax.specs.Syntax.{Pattern, Strategy}
 use Rattle.strategy_tokens.specs.declared.token.Token.{Token}
 use Rattle.strategy_tokens.specs.declared.token.Token.TheVariants.{Ident, Wildcard, Reserved, Integer, Text, Sign as ASign, Bad}
 use Rattle.strategy_tokens.specs.declared.token.Keyword.{Keyword}

@@ -3,7 +3,7 @@ use Rattle.std.proofs.Common.{◌≡◌, Bool, true, false, ◌||◌, refl, sym,
 use Rattle.std.specs.Prelude.{if◌then◌else◌, ◌⊎◌}
 use Rattle.std.specs.declared.option.Option.{Option}
 use Rattle.strategy_syntax.specs.Syntax as syntax
-use Rattle.strategy_syntax.specs.Syntax.{Pattern, wildcard, variable, at, number, compound, with_tail, annotated, no_patterns, and_pattern, pattern_list, patterns_of, Strategy, strategy_list, strategies_of}
+use Rattle.strategy_syntax.specs.Syntax.{Pattern, at, Strategy}
 use Rattle.strategy_tokens.specs.declared.token.Token.{Token}
 use Rattle.strategy_tokens.specs.declared.token.Token.TheVariants.{Reserved, Sign as ASign, Bad}
 use Rattle.strategy_tokens.specs.declared.token.Keyword.{Keyword}

@@ -3,7 +3,7 @@ use Rattle.std.proofs.Common.{◌≡◌, ℕ, zero, suc, refl, sym, ap, subst, i
 use Rattle.std.specs.Prelude.{if◌then◌else◌, ◌⊎◌}
 use Rattle.term_core.specs.Tree.{Symbol}
 use Rattle.strategy_syntax.specs.Syntax as syntax
-use Rattle.strategy_syntax.specs.Syntax.{Pattern, wildcard, variable, at, number, compound, with_tail, annotated, no_patterns, and_pattern, pattern_list, patterns_of, Strategy, strategy_list, strategies_of}
+use Rattle.strategy_syntax.specs.Syntax.{no_patterns, and_pattern, Strategy, strategy_list}
 use Rattle.strategy_tokens.specs.declared.token.Token.{Token}
 use Rattle.strategy_tokens.specs.declared.token.Token.TheVariants.{Ident, Wildcard, Reserved, Integer, Text, Sign as ASign, Bad}
 use Rattle.strategy_tokens.specs.declared.token.Sign.TheVariants.{OpenRound, Comma, Semicolon, Colon, Bar, FatArrow}
@@ -15,7 +15,6 @@ use Rattle.strategy_parse.specs.declared.parser.state.StrategyFrame.{StrategyFra
 use Rattle.strategy_parse.specs.declared.parser.state.StrategyFrame.TheVariants.{Scope}
 use Rattle.strategy_parse.specs.declared.parser.state.PatternFrame.TheVariants.{Matched}
 use Rattle.strategy_parse.specs.declared.parser.state.StrategyGroup.{StrategyGroup}
-use Rattle.strategy_parse.specs.declared.parser.state.PatternGroup.TheVariants.{Prim}
 use Rattle.strategy_tokens.specs.Marks.{is_mark}
 use Rattle.strategy_parse.specs.inside.Parser.{order_of, Next, goes, stuck, begin, begin_pattern, after, after_arrow, after_choice, in_frame, after_bar, closing, grouped, empty_bar, scope_name, step}
 use Rattle.strategy_parse.specs.Grammar.{ReadsArrows, ReadsMoreNames, ReadsNames, ReadsChoice, ReadsSeq, ReadsPrefix, ReadsChoices, ReadsSomeChoices, ReadsMoreChoices}

@@ -5,9 +5,9 @@ use Rattle.term_paths.specs.Paths.{at, set_at}
 use Rattle.term_paths.specs.Edits.{Edits, Replaces, prefixed, edited}
 use Rattle.term_paths.proofs.EditLemmas.{edits_of_a_subterm}
 use Rattle.term_changes.specs.Slots.{Store, content}
-use Rattle.term_changes.specs.Entries.{slot_tree, put, after, FitsForward}
+use Rattle.term_changes.specs.Entries.{after}
 use Rattle.term_changes.specs.Change.{places}
-use Rattle.term_changes.specs.Putting.{HasPlaces, HaveAllPlaces, entries_at}
+use Rattle.term_changes.specs.Putting.{HasPlaces, HaveAllPlaces}
 use Rattle.term_changes.specs.Standing.{Standing, unchanged, altered, fresh, Suits, standing_tree, standing_change}
 use Rattle.term_changes.proofs.FollowLemmas.{followers_are_the_change}
 use Rattle.term_changes.proofs.PlacesMade.{places_make_the_change}
@@ -15,7 +15,7 @@ use Rattle.term_changes.proofs.PlacesThere.{AllThere, all_there}
 use Rattle.strategy_syntax.specs.declared.resolved.Resolved.{Resolved}
 use Rattle.strategy_meaning.specs.Answer.{Answer}
 use Rattle.strategy_meaning.specs.Meaning.{World, run_whole}
-use Rattle.strategy_meaning.specs.Applied.{Outcome, gives, applied}
+use Rattle.strategy_meaning.specs.Applied.{gives, applied}
 use Rattle.strategy_meaning.specs.Outermost.{AreOutermost}
 use Rattle.strategy_machine.specs.Leading.{Has}
 use Rattle.strategy_machine.specs.Turns.{State, IsDone}

@@ -1,6 +1,5 @@
 -- Renumbering strategies one by one.
-use Rattle.std.proofs.Common.{◌≡◌, ℕ, suc, zero, ◌<◌, ◌≤◌, List, [], ◌∷◌, ◌++◌, length, map, take, drop, slice_set, get_or, refl, ap, arith}
-use Rattle.std.specs.Prelude.{max}
+use Rattle.std.proofs.Common.{◌≡◌, ℕ, suc, zero, ◌<◌, ◌≤◌, List, [], ◌∷◌, length, slice_set, get_or, refl, ap, arith}
 use Rattle.strategy_syntax.specs.Resolved.{ResolvedStrategy, resolveds_of, and_strategy}
 use Rattle.strategy_syntax.specs.Renumbering.{renumbered, all_renumbered}
 use Rattle.strategy_syntax.specs.inside.ResolvedDepth.{depth, depths}

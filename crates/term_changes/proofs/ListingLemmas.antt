@@ -4,11 +4,10 @@ use Rattle.std.proofs.lemmas.List.{map-append, take-append-drop}
 use Rattle.std.proofs.Math.Seq.{take-take}
 use Rattle.term_core.specs.Tree.{Tree}
 use Rattle.term_paths.specs.Edits.{Edits, prefixed}
-use Rattle.term_changes.specs.Change.{Change, same, Changes, and_then, below, places, places_from}
+use Rattle.term_changes.specs.Change.{Change, Changes, and_then, below, places, places_from}
 use Rattle.term_changes.specs.Entries.{Entry}
 use Rattle.term_changes.specs.Items.{Item, after_left, items_changes, first_item}
 use Rattle.term_changes.specs.Putting.{entry_at, entries_at}
-use Rattle.term_changes.specs.inside.ItemCodes.{taken_items}
 use Rattle.term_changes.specs.inside.Marks.{read, count, AreWhole}
 use Rattle.term_changes.specs.inside.Walked.{Walked, Listed}
 use Rattle.term_changes.specs.declared.draft.PlaceMark.{PlaceMark}

@@ -1,10 +1,10 @@
 -- Reading a patch from its end.
-use Rattle.std.proofs.Common.{◌≡◌, ℕ, zero, suc, ◌+◌, ◌<◌, ◌≤◌, List, [], ◌∷◌, ◌++◌, length, take, drop, reverse, Some, None, refl, sym, ap, subst, ◌∙◌, arith}
+use Rattle.std.proofs.Common.{◌≡◌, ℕ, suc, ◌+◌, ◌≤◌, List, [], ◌∷◌, ◌++◌, length, take, drop, reverse, refl, sym, ap, subst, ◌∙◌, arith}
 use Rattle.std.proofs.lemmas.List.{reverse-append, length-append, length-reverse}
 use Rattle.term_core.specs.Tree.{Tree}
 use Rattle.term_changes.specs.Change.{inside, replaced}
-use Rattle.term_changes.specs.Items.{Item, items_changes}
-use Rattle.term_changes.specs.inside.Marks.{read, read_mark, count, is_leaf, leaves, AreWhole}
+use Rattle.term_changes.specs.Items.{items_changes}
+use Rattle.term_changes.specs.inside.Marks.{read, read_mark, is_leaf, AreWhole}
 use Rattle.term_changes.specs.declared.draft.PlaceMark.{PlaceMark}
 use Rattle.term_changes.proofs.WalkedLemmas.{length-read}
 

@@ -1,7 +1,7 @@
 -- Trimmed changes have the same places.
-use Rattle.std.proofs.Common.{◌≡◌, ℕ, suc, ◌+◌, List, [], ◌∷◌, ◌++◌, refl, sym, ap, ◌∙◌}
+use Rattle.std.proofs.Common.{◌≡◌, ℕ, suc, ◌+◌, List, [], ◌∷◌, ◌++◌, refl, ap, ◌∙◌}
 use Rattle.term_changes.specs.Change.{Change, same, inside, replaced, Changes, no_more, and_then, below, places, places_from}
-use Rattle.term_changes.specs.Items.{Item, after_left, after_skipped, first_item, first_change, items_changes}
+use Rattle.term_changes.specs.Items.{Item, after_skipped, first_item, first_change, items_changes}
 use Rattle.term_changes.specs.inside.Trimmed.{as_one, child_before, item_of, items_of}
 
 one_left : (k : ℕ) (xs : List Item) → places_from k (items_changes (after_skipped (suc (first_item xs).0) xs)) ≡ places_from (k + 1) (items_changes xs)

@@ -1,5 +1,5 @@
 -- The next token.
-use Rattle.std.specs.Prelude.{Bool, false, ◌≡◌, List, [], ◌∷◌}
+use Rattle.std.specs.Prelude.{false, ◌≡◌, List, [], ◌∷◌}
 use Rattle.strategy_tokens.specs.declared.token.Token.{Token}
 use Rattle.strategy_tokens.specs.declared.token.Token.TheVariants.{Bad}
 use Rattle.strategy_tokens.specs.declared.token.Sign.{Sign}

@@ -1,5 +1,5 @@
 -- The start and the end of a run.
-use Rattle.std.specs.Prelude.{◌≡◌, ℕ, []}
+use Rattle.std.specs.Prelude.{◌≡◌, []}
 use Rattle.term_changes.specs.Standing.{Standing}
 use Rattle.strategy_meaning.specs.Answer.{Answer}
 use Rattle.strategy_machine.specs.Table.{scopes}

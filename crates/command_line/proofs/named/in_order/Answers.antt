@@ -1,4 +1,4 @@
-use Rattle.std.proofs.Common.{rules, arith, ◌<◌, ◌≤◌, ◌+◌, length}
+use Rattle.std.proofs.Common.{rules, arith, ◌<◌, length}
 use Rattle.command_line.proofs.NamedLemmas.{first_malformed, second_malformed, malformed_at, module_read, module_keeps, tree_read, tree_keeps, name_read}
 use Rattle.command_line.proofs.named.in_order.Goals as goal
 

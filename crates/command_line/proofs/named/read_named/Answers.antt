@@ -1,5 +1,4 @@
-use Rattle.std.proofs.Common.{rules, ◌≡◌, false}
-use Rattle.command_line.specs.Line.{is_named}
+use Rattle.std.proofs.Common.{rules}
 use Rattle.command_line.proofs.NamedLemmas.{not_named}
 use Rattle.command_line.proofs.named.read_named.Goals as goal
 

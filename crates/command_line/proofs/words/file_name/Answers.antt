@@ -1,4 +1,4 @@
-use Rattle.std.proofs.Common.{ap, ◌≡◌}
+use Rattle.std.proofs.Common.{ap}
 use Rattle.clap.specs.Words.{Rule}
 use Rattle.command_line.proofs.words.file_name.Goals as goal
 

@@ -1,4 +1,4 @@
-use Rattle.std.proofs.Common.{ap, Some, ◌≡◌}
+use Rattle.std.proofs.Common.{ap, Some}
 use Rattle.clap.specs.Words.{Rule}
 use Rattle.clap.specs.declared.builder.action.ArgAction.TheVariants.{Append}
 use Rattle.command_line.proofs.words.files_option.Goals as goal

@@ -1,4 +1,4 @@
-use Rattle.std.proofs.Common.{ap, Some, ◌≡◌}
+use Rattle.std.proofs.Common.{ap, Some}
 use Rattle.clap.specs.Words.{Rule}
 use Rattle.command_line.proofs.words.interactive_flag.Goals as goal
 

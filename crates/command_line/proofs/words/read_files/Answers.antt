@@ -1,8 +1,7 @@
-use Rattle.std.proofs.Common.{codes, refl, ◌≡◌, ◌∙◌}
-use Rattle.clap.specs.Words.{found_of, rows_of}
+use Rattle.std.proofs.Common.{codes, refl, ◌∙◌}
+use Rattle.clap.specs.Words.{found_of}
 use Rattle.clap.proofs.WalkLemmas.{raw_values-rows}
-use Rattle.command_line.specs.Line.{values}
-use Rattle.command_line.proofs.NamedLemmas.{all_named, err_is, loads_malformed, strs_are, texts, writes_malformed}
+use Rattle.command_line.proofs.NamedLemmas.{all_named, err_is, loads_malformed, strs_are, writes_malformed}
 use Rattle.command_line.proofs.words.read_files.Goals as goal
 
 pub returns-in_err-loads-clause-malformed : goal.returns-in_err-loads-clause-malformed

@@ -1,4 +1,4 @@
-use Rattle.std.proofs.Common.{◌≡◌, arith}
+use Rattle.std.proofs.Common.{arith}
 use Rattle.prim_extended.proofs.QuoteLemmas.{closed, not_closed}
 use Rattle.prim_extended.proofs.constructors.front.Goals as goal
 

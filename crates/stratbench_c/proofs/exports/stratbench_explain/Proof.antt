@@ -10,12 +10,12 @@ use contract.Monad.{fact, fact_i}
 use contract.Running.{tables}
 use prog.Wp.{WpFn}
 use types.Logic.{sem}
-use types.Kit.{‵, raw, ◌⊛◌, some, later, prop, ◌$◌, ◌∵◌, !, qed, done, move, keep, drop, use0, use1, use2, use3, split, split3, join, fsplit, pick, await, regoal, suffices, group}
+use types.Kit.{‵, raw, ◌⊛◌, some, later, prop, ◌$◌, ◌∵◌, !, qed, done, move, keep, drop, use0, use1, use2, use3, split, join, fsplit, pick, await, regoal, suffices, group}
 use types.Run.{enter, of_opd, addr, stop, no_more, and_then, returns}
 use types.ByLocal.{alloc_all, pass_all, free_all, look_at, get, through, sets, lands_as}
 use types.SemTy.{Body}
 use types.Tokens.{lft_new, lft_end}
-use denote.Builtin.{u8, u32, SliceRefOf}
+use denote.Builtin.{u32}
 use denote.Exit.{yes}
 use denote.Laws.{Is, shows}
 use denote.Lend.{lends_ref, ref_back}
@@ -24,7 +24,6 @@ use denote.Plain.{uint_Lawful, uint_Makes, uint_vals, uint_Tells}
 use denote.RawPtr.{Ptr, RawPtr, block_ptr, lies_at, in_a_block, rawptr_vals, rawptr_Tells}
 use denote.Ref.{MutBor, MutRef}
 use denote.Signature.{plain}
-use denote.Slice.{ShrSlice, shr_slice_vals, shr_slice_Tells}
 use denote.Steps.{nothing, owned, peeks, heard}
 use denote.Triple.Call.{calls_at}
 use denote.Triple.Clauses.{Lasts, lasts}

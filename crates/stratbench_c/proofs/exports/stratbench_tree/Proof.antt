@@ -5,7 +5,7 @@ use base.Fraction.{full_share}
 use base.Logic.{emp, ex, ex_i, sep, id⊢}
 use base.Fml.{ftrue, flft, flent}
 use mir.Syntax.{named}
-use mir.Val.{vint, vptr}
+use mir.Val.{vptr}
 use contract.Monad.{fact, fact_i}
 use contract.Running.{tables}
 use prog.Wp.{WpFn}
@@ -20,12 +20,12 @@ use denote.Exit.{yes}
 use denote.Laws.{Is, shows}
 use denote.Lend.{lends_ref, ref_back}
 use denote.Memory.{mem, part_at}
-use denote.Plain.{uint_Lawful, uint_Makes, uint_vals, uint_Tells}
+use denote.Plain.{uint_Lawful}
 use denote.RawPtr.{Ptr, RawPtr, block_ptr, lies_at, in_a_block, rawptr_vals, rawptr_Tells}
 use denote.Ref.{MutBor, MutRef}
 use denote.Signature.{plain}
 use denote.Slice.{ShrSlice, shr_slice_vals, shr_slice_Tells}
-use denote.Steps.{nothing, owned, peeks, heard}
+use denote.Steps.{nothing, peeks, heard}
 use denote.Triple.Call.{calls_at}
 use denote.Triple.Clauses.{Lasts, lasts}
 use denote.Triple.Spec.{triple_of}

@@ -1,4 +1,4 @@
-use Rattle.std.proofs.Common.{◌≡◌, ◌++◌, [], ◌∷◌, length, take, drop, reverse, suc, ◌+◌, ◌-◌, refl, sym, ap, subst, ◌∙◌, arith, add-one, slice_index_or}
+use Rattle.std.proofs.Common.{◌++◌, length, take, drop, reverse, ◌+◌, ◌-◌, refl, sym, ap, ◌∙◌, arith, add-one, slice_index_or}
 use Rattle.std.proofs.lemmas.Result.{IfOk-weaker}
 use Rattle.term_paths.specs.Edits.{prefixed}
 use Rattle.term_changes.specs.Change.{places_from}

@@ -1,4 +1,4 @@
-use Rattle.std.proofs.Common.{◌≡◌, Bool, true, false, Some, None, Ok, Err, IfOk, IfErr, refl, sym, ap, ◌∙◌, subst, inr, if◌then◌else◌}
+use Rattle.std.proofs.Common.{◌≡◌, Bool, true, false, Some, None, Ok, Err, IfOk, IfErr, refl, sym, ap, ◌∙◌, inr, if◌then◌else◌}
 use Rattle.std.specs.declared.result.Result.{Result}
 use Rattle.session_modules.specs.declared.refusal.Refusal.{Refusal}
 use Rattle.session_modules.specs.declared.refusal.Refusal.TheVariants.{Line}
