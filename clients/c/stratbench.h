@@ -5,7 +5,8 @@
  *
  * - A handle is the address of stratbench_size() bytes, aligned to 16 as malloc aligns. stratbench_new makes a session
  *   there, and stratbench_drop ends it: then the bytes are the caller's again. In between the caller neither reads, writes,
- *   copies nor moves them, and each handle is used by one call at a time, on the thread that made it.
+ *   copies nor moves them, and each handle is used by one call at a time, on the thread that made it. The same holds of a
+ *   stopper, except that any thread may use it: threads that share it take a lock, or the like, to hand it over.
  * - No pointer is null, not even for 0 bytes. Bytes are readable, and those to be written writable, for the whole length.
  *   No two areas of memory of a call overlap.
  * - malloc, realloc and free are of one allocator, and align as the C library's do. No function is called from a signal
@@ -20,9 +21,9 @@
 
 /* The version of this header. A program that was compiled with it may be linked with the library of this version, and with a later one
  * of the same major number: stratbench_misfit says whether the library at hand is one. */
-#define STRATBENCH_VERSION "1.2.0"
+#define STRATBENCH_VERSION "1.3.0"
 #define STRATBENCH_VERSION_MAJOR 1
-#define STRATBENCH_VERSION_MINOR 2
+#define STRATBENCH_VERSION_MINOR 3
 #define STRATBENCH_VERSION_PATCH 0
 
 #ifdef __cplusplus
@@ -43,13 +44,18 @@ enum {
     /* The steps are not from 1 to the session's greatest budget: nothing is done. */
     STRATBENCH_NO_BUDGET = 4,
     /* The limits are too low or too high: nothing is done. */
-    STRATBENCH_NO_LIMITS = 5
+    STRATBENCH_NO_LIMITS = 5,
+    /* A stopper stopped the script: the first commands are answered, and their answers are whole. No other command did anything. */
+    STRATBENCH_STOPPED = 6
 };
 
 /* A session, of which only the address is known. */
 typedef struct stratbench_session stratbench_session;
 
-/* The version of the library, as "1.2.0". */
+/* What stops the scripts of a session, of which only the address is known. */
+typedef struct stratbench_stopper stratbench_stopper;
+
+/* The version of the library, as "1.3.0". */
 const char *stratbench_version(void);
 
 /* Returns NULL if the library fits a program that was compiled with the header of this version, or else a sentence that says why not:
@@ -108,6 +114,22 @@ uint32_t stratbench_explain(stratbench_session *handle, uint32_t explains);
  * an accepted one may not be meant to say, as `stratbench --explain` or `--explain=json` writes them. Lines for which there was no memory are left
  * out. */
 size_t stratbench_hints(stratbench_session *handle, uint8_t *out, size_t room);
+
+/* The bytes at a stopper, the same at each call: of room that the caller gives, as for a session. */
+size_t stratbench_stopper_size(void);
+
+/* Makes a stopper for the scripts of the session, on the session's thread. The one that was made for it before no longer stops it. */
+void stratbench_stopper_new(stratbench_session *handle, stratbench_stopper *stopper);
+
+/* Stops the script that stratbench_run or stratbench_lines is answering: on any thread, while the session's own is in that call. The
+ * command that is run ends before its next step, and is as if it had not been run. A stop stays: where no script is being answered it
+ * stops the next one before its first command, and each that follows, until another stopper is made for the session. So a stop that
+ * comes early isn't lost, and with a stopper for each script one that comes late stops no other. Loads, and trees that are shown, aren't
+ * stopped. Returns STRATBENCH_ACCEPTED, or STRATBENCH_NO_MEMORY where there was no memory for the stopper: then it stops nothing. */
+uint32_t stratbench_stop(stratbench_stopper *stopper);
+
+/* Ends the stopper, and gives its memory back: on any thread, before or after the session ends. */
+void stratbench_stopper_drop(stratbench_stopper *stopper);
 
 /* Ends the session, and gives its memory back. */
 void stratbench_drop(stratbench_session *handle);

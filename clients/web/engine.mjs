@@ -25,7 +25,7 @@ export class Trap extends Error {
 export class NotRun extends Error {}
 
 /** The first version of the module that this client speaks to, and the first one after it that it doesn't. */
-const FROM = [1, 2, 0];
+const FROM = [1, 3, 0];
 const BELOW = [2, 0, 0];
 
 /** A module of a version that this client doesn't speak to. */
@@ -36,7 +36,7 @@ export class Misfit extends Error {
   }
 }
 
-/** Whether this client speaks to this version, as `1.2.0`. */
+/** Whether this client speaks to this version, as `1.3.0`. */
 export function fits(version) {
   const numbers = version.split('.').map(Number);
   const isBefore = other => {

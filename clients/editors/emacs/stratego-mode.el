@@ -1,6 +1,6 @@
 ;;; stratego-mode.el --- Modules of Stratego for stratbench  -*- lexical-binding: t; -*-
 
-;; Version: 1.2.0
+;; Version: 1.3.0
 ;; Package-Requires: ((emacs "26.1"))
 
 ;;; Commentary:

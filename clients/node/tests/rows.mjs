@@ -12,7 +12,7 @@ const { load } = await own('sessions.mjs');
 const { reason } = await own('system.mjs');
 const { options } = JSON.parse(readFileSync(`${folder}words.json`, 'utf8'));
 // what the rows have
-const version = '1.2.0 (commit ------------, not stated)';
+const version = '1.3.0 (commit ------------, not stated)';
 
 const coded = parts => Buffer.concat(parts).toString('base64');
 const bytes = text => Buffer.from(text, 'base64');

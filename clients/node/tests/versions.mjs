@@ -17,11 +17,11 @@ for (const [coded, what] of [[LATER, 'is version 2.0.0'], [EARLIER, 'says no ver
     await Engine.load(Buffer.from(coded, 'base64'));
     wrong.push(`a module that ${what} is taken`);
   } catch (fault) {
-    const wanted = `the engine ${what}, and this client is for versions from 1.2.0 to below 2.0.0`;
+    const wanted = `the engine ${what}, and this client is for versions from 1.3.0 to below 2.0.0`;
     if (!(fault instanceof Misfit) || fault.message !== wanted) wrong.push(`${fault}`);
   }
 }
-for (const [version, is] of [['1.2.0', true], ['1.1.9', false], ['1.10.0', true], ['2.0.0', false], ['', false], ['x.y.z', false]]) {
+for (const [version, is] of [['1.3.0', true], ['1.2.9', false], ['1.10.0', true], ['2.0.0', false], ['', false], ['x.y.z', false]]) {
   if (fits(version) !== is) wrong.push(`${version}: ${fits(version)}`);
 }
 wrong.forEach(it => console.log(it));

@@ -8,9 +8,9 @@ import subprocess
 from functools import lru_cache
 from typing import Final
 
-CLIENT: Final = "1.2.0"
+CLIENT: Final = "1.3.0"
 # The first version that the client speaks to, and the first one after it that it doesn't.
-FROM: Final = (1, 2, 0)
+FROM: Final = (1, 3, 0)
 BELOW: Final = (2, 0, 0)
 # How long a program may take to say its version.
 _SECONDS: Final = 10
@@ -29,7 +29,7 @@ def check(file: str, said: str) -> None:
     >>> check("stratbench", "stratbench 1.9.3")
     >>> check("stratbench", "stratbench 2.0.0")
     Traceback (most recent call last):
-    stratbench.versions.Misfit: stratbench: it is version 2.0.0, and this client is for versions from 1.2.0 to below 2.0.0
+    stratbench.versions.Misfit: stratbench: it is version 2.0.0, and this client is for versions from 1.3.0 to below 2.0.0
     """
     found = re.match(r"(?:stratbench )?((\d+)\.(\d+)\.(\d+))", said)
     if found and FROM <= tuple(map(int, found.groups()[1:])) < BELOW:

@@ -211,7 +211,7 @@ def ends():
             Stratbench(program=other)
             yield "a program of another version", "it began"
         except Misfit as why:
-            fits = str(why) == f"{other}: it is version 2.0.0, and this client is for versions from 1.2.0 to below 2.0.0"
+            fits = str(why) == f"{other}: it is version 2.0.0, and this client is for versions from 1.3.0 to below 2.0.0"
             yield "a program of another version", "" if fits else str(why)
         bench = Stratbench(options=["--write", f"t={room}/out", "--write", f"u={room}/none"])
         bench.tree("t", "f(1)")

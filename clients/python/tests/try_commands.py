@@ -225,7 +225,7 @@ def messages(top):
     for said, what in (("stratbench 2.0.0", "is version 2.0.0"), ("stratbench 1.1.9", "is version 1.1.9"), ("a shell", "says no version")):
         room.put("other", f"#!/bin/sh\necho {said}\n")
         os.chmod(f"{room.folder}/other", 0o755)
-        why = f"./other: it {what}, and this client is for versions from 1.2.0 to below 2.0.0\n"
+        why = f"./other: it {what}, and this client is for versions from 1.3.0 to below 2.0.0\n"
         yield f"a program that {what}", wanted(room.run("--write", "a.py", "--program", "./other"), 2, "", why) or ("" if room.has("a.py") == A else "a.py changed")
 
 

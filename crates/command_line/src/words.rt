@@ -27,7 +27,7 @@ pub const DEFAULT_BUDGET: u32 = 100_000;
 
 /// The version of the program. `tools/package` writes over what is in brackets, to the byte: of which
 /// commit the program is, and whether it is proved.
-pub const VERSION: &str = "1.2.0 (commit ------------, not stated)";
+pub const VERSION: &str = "1.3.0 (commit ------------, not stated)";
 
 // Examples of use, for the end of the help text.
 const EXAMPLES: &str = "Examples:
