@@ -12,16 +12,19 @@ ghost use Rattle.session_history.specs.Moving.{KeepsHistory, Changes, PerformsBy
 use crate::planning::{PlannedAt, plan_at};
 use prim_core::{Meaning, Primitives};
 use session_history::{ModuleCache, Refusal, Timeline};
+use strategy_run::Stop;
 use term_changes::Patch;
 use term_core::Label;
 use term_paths::Path;
 
 /// Applies the strategy given as text to the subterm at the path of the name's tree, within
-/// this budget. The modules are checked unless they are kept, and are kept then.
+/// this budget. The modules are checked unless they are kept, and are kept then. A stop ends the
+/// run as want of memory does.
 pub(crate) fn apply_strategy<M: Meaning>(
     timeline: &mut Timeline,
     primitives: &Primitives<M>,
     cache: &mut ModuleCache,
+    stop: Option<&Stop>,
     name: &Label,
     path: &Path,
     budget: u32,
@@ -34,7 +37,7 @@ pub(crate) fn apply_strategy<M: Meaning>(
     ensures kept { IsKept primitives.now (contents timeline.new.store).modules cache.new }
 {
     let PlannedAt { slot, planned } = match plan_at(
-        timeline, primitives, cache, name, path, budget, text,
+        timeline, primitives, cache, stop, name, path, budget, text,
     ) {
         Ok(found) => found,
         Err(refusal) => return Err(refusal),

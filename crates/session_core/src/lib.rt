@@ -11,3 +11,4 @@ mod session;
 pub use preview::{Places, Preview};
 pub use session::Session;
 pub use session_history::{Limits, MAX_BUDGET, Refusal};
+pub use strategy_run::Stop;

@@ -12,7 +12,7 @@ ghost use Rattle.session_core.specs.inside.Resolved.{replaced_of, IsUnresolved};
 use crate::resolving::{ResolvedAt, resolve_at};
 use prim_core::{Meaning, Primitives};
 use session_history::{ModuleCache, Refusal, Timeline};
-use strategy_run::{Ended, Host, Planned, plan_patch};
+use strategy_run::{Ended, Host, Planned, Stop, plan_patch_until};
 use term_core::{Label, NoMemory};
 use term_paths::Path;
 
@@ -24,11 +24,13 @@ pub(crate) struct PlannedAt {
 }
 
 /// The slot of the name's tree, and what the strategy given as text replaces in the subterm at the
-/// path, within this budget. The modules are checked unless they are kept, and are kept then.
+/// path, within this budget. The modules are checked unless they are kept, and are kept then. A
+/// stop ends the run as want of memory does.
 pub(crate) fn plan_at<M: Meaning>(
     timeline: &Timeline,
     primitives: &Primitives<M>,
     cache: &mut ModuleCache,
+    stop: Option<&Stop>,
     name: &Label,
     path: &Path,
     budget: u32,
@@ -55,7 +57,15 @@ pub(crate) fn plan_at<M: Meaning>(
         room: timeline.limits().max_terms,
     };
     let (alloc, level) = (timeline.allocator(), path.len() as u64);
-    let ended = plan_patch(alloc, &host, place.part, level, &strategy, budget as u64);
+    let ended = plan_patch_until(
+        alloc,
+        &host,
+        place.part,
+        level,
+        &strategy,
+        budget as u64,
+        stop,
+    );
     drop(strategy);
     match replaced(ended) {
         Ok(planned) => Ok(PlannedAt {

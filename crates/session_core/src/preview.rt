@@ -12,7 +12,7 @@ use change_log::Plan;
 use prim_core::{Meaning, Primitives};
 use session_history::{ModuleCache, Refusal, Timeline};
 use std::marker::Model;
-use strategy_run::Planned;
+use strategy_run::{Planned, Stop};
 use term_changes::{Kept, Replaced};
 use term_core::{Label, Term};
 use term_paths::Path;
@@ -87,11 +87,13 @@ impl<'a> Places<'a> {
 }
 
 /// What applying the strategy given as text to the subterm at the path of the name's tree would
-/// replace. The modules are checked unless they are kept, and are kept then.
+/// replace. The modules are checked unless they are kept, and are kept then. A stop ends the run as
+/// want of memory does.
 pub(crate) fn preview_strategy<M: Meaning>(
     timeline: &Timeline,
     primitives: &Primitives<M>,
     cache: &mut ModuleCache,
+    stop: Option<&Stop>,
     name: &Label,
     path: &Path,
     budget: u32,
@@ -103,7 +105,7 @@ pub(crate) fn preview_strategy<M: Meaning>(
     ensures kept { IsKept primitives.now (contents timeline.now.store).modules cache.new }
 {
     let PlannedAt { slot, planned } = match plan_at(
-        timeline, primitives, cache, name, path, budget, text,
+        timeline, primitives, cache, stop, name, path, budget, text,
     ) {
         Ok(found) => found,
         Err(refusal) => return Err(refusal),

@@ -19,6 +19,7 @@ use std::alloc::Global;
 use std::marker::Model;
 use strategy_check::Program;
 use strategy_meaning::laws::heights_are_kept;
+use strategy_run::Stop;
 use term_core::{Label, NoMemory, Term};
 use term_paths::Path;
 
@@ -29,6 +30,8 @@ pub struct Session<M: Meaning> {
     primitives: Primitives<M>,
     timeline: Timeline,
     cache: ModuleCache,
+    // What its runs heed.
+    stop: Option<Stop>,
 }
 
 impl<M: Meaning> Model for Session<M> {
@@ -65,7 +68,22 @@ impl<M: Meaning> Session<M> {
             primitives,
             timeline: Timeline::new(alloc, limits),
             cache: ModuleCache::new(alloc),
+            stop: None,
         }
+    }
+
+    /// Has runs heed this stop, in place of the one before: once it is asked for, an apply or a
+    /// preview ends before its next turn. It is refused with `Memory` then, so all stays. A session
+    /// that heeds none pays nothing for this.
+    pub fn heed(&mut self, stop: Stop)
+        ensures { self.new ≡ self.old }
+    {
+        self.stop = Some(stop);
+    }
+
+    /// What its runs heed, if anything.
+    pub fn stop(&self) -> Option<&Stop> {
+        self.stop.as_ref()
     }
 
     /// The limits of terms and budgets, which stay the same.
@@ -285,6 +303,7 @@ impl<M: Meaning> Session<M> {
             &mut self.timeline,
             &self.primitives,
             &mut self.cache,
+            self.stop.as_ref(),
             name,
             path,
             budget,
@@ -314,6 +333,7 @@ impl<M: Meaning> Session<M> {
             &self.timeline,
             &self.primitives,
             &mut self.cache,
+            self.stop.as_ref(),
             name,
             path,
             budget,
