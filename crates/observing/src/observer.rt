@@ -120,13 +120,19 @@ impl<'a> Observer<'a> {
         if self.wanted.explanations {
             let _ = warn(self.alloc, &ground, &here, &mut writer);
             if let Some(nothing) = warn_of_nothing(self.alloc, ground.history, &here)
-                && let Ok(nothing) = explain_nothing(self.alloc, &ground, &here, nothing)
+                && let Ok(nothing) = explain_nothing(
+                    self.alloc,
+                    &ground,
+                    &here,
+                    session.stop(),
+                    nothing,
+                )
             {
                 writer.report(&nothing);
             }
         }
         if let Some(tree) = &self.before
-            && let Ok(diagnostic) = profile_run(self.alloc, &ground, &here, tree)
+            && let Ok(diagnostic) = profile_run(self.alloc, &ground, &here, tree, session.stop())
         {
             writer.report(&diagnostic);
         }
@@ -144,8 +150,7 @@ impl<'a> Observer<'a> {
     ) {
         let here = self.script_command(command);
         if self.wanted.explanations {
-            let ground = ground_of(session);
-            self.explain(&ground, &here, refusal, screen);
+            self.explain(session, &here, refusal, screen);
         }
         let past = self.past.after(here.line, here.parts.command, false);
         self.past = past;
@@ -186,7 +191,7 @@ impl<'a> Observer<'a> {
             return false;
         }
         let command = self.load_command(text);
-        self.explain(&ground_of(session), &command, refusal, screen)
+        self.explain(session, &command, refusal, screen)
     }
 
     fn load_command<'c>(&self, text: LoadedText<'c>) -> ScriptCommand<'c>
@@ -213,13 +218,17 @@ impl<'a> Observer<'a> {
     // for that.
     fn explain<M: Meaning, S: Screen>(
         &self,
-        ground: &Ground<'_, M>,
+        session: &Session<M>,
         command: &ScriptCommand<'_>,
         refusal: &Refusal,
         screen: &mut S,
     ) -> bool {
-        let explained = explain(self.alloc, ground, command, refusal);
-        match explained.and_then(|it| explain_run(self.alloc, ground, command, refusal, it)) {
+        let ground = ground_of(session);
+        let stop = session.stop();
+        let explained = explain(self.alloc, &ground, command, refusal);
+        match explained.and_then(|it| explain_run(
+            self.alloc, &ground, command, refusal, stop, it,
+        )) {
             Ok(diagnostic) => {
                 self.writer(screen).report(&diagnostic);
                 !diagnostic.is_broken()

@@ -8,6 +8,7 @@ use hint_text::{bytes_at, token_of};
 use session_history::CheckedTexts;
 use std::alloc::Global;
 use strategy_parse::{definition_stands_at, stands_at, token_count};
+use strategy_run::Stop;
 use strategy_syntax::{
     Definition, Place, Resolved, ResolvedForm, ResolvedStrategy, Strategy, TokenRange,
 };
@@ -24,6 +25,8 @@ pub struct About<'a> {
     /// The term that the strategy was applied to, and its path.
     pub term: &'a Term,
     pub path: &'a [usize],
+    /// What ends a run of it, if anything.
+    pub stop: Option<&'a Stop>,
 }
 
 /// A body of the definition of this number.

@@ -15,19 +15,20 @@ use std::alloc::Global;
 use strategy_check::resolve;
 use strategy_machine::Host;
 use strategy_parse::parse_strategy;
-use strategy_run::{Ended, plan_patch_seen};
+use strategy_run::{Ended, Stop, plan_patch_seen};
 use term_core::{MAX_HEIGHT, NoMemory, Term};
 use term_paths::at;
 
 /// Adds at most eight lines on why the run of a refused command ended as it did; nothing if the refusal
 /// is none of a run. The command is run again, in its session, which is left as it is. The code stays.
 ///
-/// Errors: `NoMemory` if memory can't grow.
+/// Errors: `NoMemory` if memory can't grow, or the stop is asked for.
 pub fn explain_run<'a, M: Meaning>(
     alloc: Global,
     ground: &Ground<'a, M>,
     command: &ScriptCommand<'a>,
     refusal: &Refusal,
+    stop: Option<&'a Stop>,
     hint: Diagnostic,
 ) -> Result<Diagnostic, NoMemory>
     ensures code { IfOk result (λ it. it.code ≡ hint.code) }
@@ -39,7 +40,7 @@ pub fn explain_run<'a, M: Meaning>(
         Refusal::Big => Wanted::End,
         _ => return Ok(hint),
     };
-    match look_at_own(alloc, ground, command, wanted, hint) {
+    match look_at_own(alloc, ground, command, wanted, stop, hint) {
         Ok(explained) => Ok(explained.with_code(code)),
         Err(NoMemory) => Err(NoMemory),
     }
@@ -49,25 +50,27 @@ pub fn explain_run<'a, M: Meaning>(
 /// replaced nothing; nothing if no rule of the user matched a root without matching all. The command
 /// is run again, in the session after it.
 ///
-/// Errors: `NoMemory` if memory can't grow.
+/// Errors: `NoMemory` if memory can't grow, or the stop is asked for.
 pub fn explain_nothing<'a, M: Meaning>(
     alloc: Global,
     ground: &Ground<'a, M>,
     command: &ScriptCommand<'a>,
+    stop: Option<&'a Stop>,
     hint: Diagnostic,
 ) -> Result<Diagnostic, NoMemory> {
-    look_at_own(alloc, ground, command, Wanted::Nearest, hint)
+    look_at_own(alloc, ground, command, Wanted::Nearest, stop, hint)
 }
 
 /// Two lines on where the steps of an accepted command went that applied a strategy to this tree;
 /// the session is the one after it, whose modules it leaves as they were.
 ///
-/// Errors: `NoMemory` if memory can't grow.
+/// Errors: `NoMemory` if memory can't grow, or the stop is asked for.
 pub fn profile_run<'a, M: Meaning>(
     alloc: Global,
     ground: &Ground<'a, M>,
     command: &ScriptCommand<'a>,
     tree: &'a Term,
+    stop: Option<&'a Stop>,
 ) -> Result<Diagnostic, NoMemory> {
     let code = Code {
         number: 0,
@@ -75,7 +78,7 @@ pub fn profile_run<'a, M: Meaning>(
     };
     let origin = Origin::Line(command.line);
     let hint = Diagnostic::new(alloc, Severity::Profile, code, origin);
-    look_at(alloc, ground, command, tree, Wanted::Steps, hint)
+    look_at(alloc, ground, command, tree, Wanted::Steps, stop, hint)
 }
 
 /// The tree that the command of these parts applies a strategy to, if it does.
@@ -97,10 +100,11 @@ fn look_at_own<'a, M: Meaning>(
     ground: &Ground<'a, M>,
     command: &ScriptCommand<'a>,
     wanted: Wanted,
+    stop: Option<&'a Stop>,
     hint: Diagnostic,
 ) -> Result<Diagnostic, NoMemory> {
     match tree_of(alloc, ground.history, &command.parts) {
-        Some(tree) => look_at(alloc, ground, command, tree, wanted, hint),
+        Some(tree) => look_at(alloc, ground, command, tree, wanted, stop, hint),
         None => Ok(hint),
     }
 }
@@ -112,6 +116,7 @@ fn look_at<'a, M: Meaning>(
     command: &ScriptCommand<'a>,
     tree: &'a Term,
     wanted: Wanted,
+    stop: Option<&'a Stop>,
     hint: Diagnostic,
 ) -> Result<Diagnostic, NoMemory> {
     let parts = &command.parts;
@@ -135,6 +140,7 @@ fn look_at<'a, M: Meaning>(
                     resolved: &resolved,
                     term,
                     path: path.parts(),
+                    stop,
                 };
                 tell(ground, about, asked, hint)
             }

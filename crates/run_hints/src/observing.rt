@@ -16,6 +16,11 @@ pub struct Observer<'h, 't, M: Meaning> {
 
 impl<'t, M: Meaning> Look<'t> for Observer<'_, 't, M> {
     fn before_turn(&mut self, machine: &Machine<'t>) -> Result<(), NoMemory> {
+        if let Some(stop) = self.kept.about.stop
+            && stop.is_asked()
+        {
+            return Err(NoMemory);
+        }
         self.kept.before_turn(self.host, machine)
     }
 
