@@ -170,19 +170,24 @@ def prove(made):
     return lowered(["rt", "lib"], CRATE, made.llvm, True)
 
 
-# What a call of an export is handed, by the type of its parameter.
-HANDED = {"Global": "rt.alloc()", "*mut u8": "handle", "&[u8]": "b\"t\"", "&mut [u8]": "&mut room", "&mut [usize]": "&mut ends", "u32": "1"}
-# A program that `rt try` compiles, which calls each export, and so has each. The first session ends at once, and the last with the program.
+# What a call of an export is handed, by the type of its parameter. An address is handed under the parameter's own name.
+HANDED = {"Global": "rt.alloc()", "&[u8]": "b\"t\"", "&mut [u8]": "&mut room", "&mut [usize]": "&mut ends", "u32": "1"}
+# A program that `rt try` compiles, which calls each export, and so has each. The first session and its stopper end at once, and the last with
+# the program.
 CALLS = """
 fn main(rt: HostRuntime) {
     let mut bench = make(rt.alloc());
+    let mut made = make_stopper(&mut bench);
     let handle = (&raw mut bench) as *mut u8;
+    let stopper = (&raw mut made) as *mut u8;
     let mut room = [0u8; 64];
     let mut ends = [0usize; 8];
     unsafe {
+        stratbench_stopper_drop(stopper);
         stratbench_drop(handle);
         %s
         stratbench_new(rt.alloc(), handle);
+        stratbench_stopper_new(handle, stopper);
     }
 }
 """
@@ -192,8 +197,9 @@ def calls():
     """A call of each export, in the order of the source."""
     exports = re.findall(r'pub (?:unsafe )?extern "C" fn (\w+)\((.*?)\)', contents(f"{CRATE}/src/exports.rt").decode(), re.DOTALL)
     for name, parameters in exports:
-        types = [it.partition(":")[2].strip() for it in parameters.split(",") if it.strip()]
-        yield f"let _ = {name}({', '.join(HANDED[it] for it in types)});"
+        pairs = [it.split(":") for it in parameters.split(",") if it.strip()]
+        handed = [HANDED.get(type_.strip(), name_.strip()) for name_, type_ in pairs]
+        yield f"let _ = {name}({', '.join(handed)});"
 
 
 def for_c(text):

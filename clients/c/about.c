@@ -25,6 +25,8 @@ const char *stratbench_status_text(unsigned status) {
         return "the steps are not from 1 to the greatest budget: nothing is done";
     case 5:
         return "the limits are too low or too high: nothing is done";
+    case 6:
+        return "a stopper stopped the script: the first commands are answered, and no other did anything";
     default:
         return "no status of the library";
     }

@@ -32,9 +32,9 @@ def session(system, program):
 
 
 def program_in_c(system, find, run):
-    """The program of the manual, compiled as it says, prints what it says; and with the static library. `find` are variables with which
+    """The first program of the manual, compiled as it says, prints what it says; and with the static library. `find` are variables with which
     pkg-config finds the library, `run` those with which the loader does."""
-    [source] = blocks("docs/manual/c.md", "c")
+    source, *_ = blocks("docs/manual/c.md", "c")
     put(system.work, "my.c", source)
     compiler = next((it for it in ("gcc", "clang") if system.has(it)), "cc")
     needs(compiler, "pkg-config", has=system.has)

@@ -1,6 +1,9 @@
 /* Tries the library: a line for each trial, and status 1 where one failed. It is linked with `--wrap` for malloc, calloc and
  * realloc, so that growths of memory can be refused. */
 #include "stratbench.h"
+#include <pthread.h>
+#include <sched.h>
+#include <stdatomic.h>
 #include <stdio.h>
 #include <stdlib.h>
 #include <string.h>
@@ -8,7 +11,7 @@
 #define STEPS 100000
 #define COMMANDS 12
 
-static int failed;
+static atomic_int failed;
 
 #define CHECK(holds) \
     do { \
@@ -26,12 +29,13 @@ void *__real_realloc(void *block, size_t size);
 
 /* Growths are counted from 1. Those from `first_refused` to `last_refused` are refused, and those of more than `largest`
  * bytes. */
-static unsigned long growths, first_refused, last_refused;
+static atomic_ulong growths;
+static unsigned long first_refused, last_refused;
 static size_t largest = SIZE_MAX;
 
 static int is_refused(size_t size) {
-    growths++;
-    return size > largest || (first_refused <= growths && growths <= last_refused);
+    unsigned long growth = ++growths;
+    return size > largest || (first_refused <= growth && growth <= last_refused);
 }
 
 void *__wrap_malloc(size_t size) { return is_refused(size) ? NULL : __real_malloc(size); }
@@ -290,6 +294,126 @@ static void side_by_side(void) {
     end(other);
 }
 
+/* ---- stops */
+
+#define ENDLESS "apply t do rec x(![1]; x)"
+#define MOST_STEPS 4000000000
+
+static uint32_t run_long(stratbench_session *handle, const char *script) {
+    return stratbench_run(handle, (const uint8_t *)script, strlen(script), MOST_STEPS);
+}
+
+static stratbench_stopper *stopper_of(stratbench_session *handle) {
+    stratbench_stopper *stopper = __real_malloc(stratbench_stopper_size());
+    stratbench_stopper_new(handle, stopper);
+    return stopper;
+}
+
+static void end_stopper(stratbench_stopper *stopper) {
+    stratbench_stopper_drop(stopper);
+    free(stopper);
+}
+
+/* What another thread is handed: a stopper, how many growths of memory it waits for, and whether the script has ended before. */
+struct waiting {
+    stratbench_stopper *stopper;
+    unsigned long growths;
+    atomic_int has_ended;
+};
+
+/* Waits until the script has taken memory so often, and so is under way. Then stops it. */
+static void *stop_later(void *handed) {
+    const struct waiting *it = handed;
+    while (growths < it->growths && !it->has_ended) sched_yield();
+    CHECK(stratbench_stop(it->stopper) == STRATBENCH_ACCEPTED);
+    end_stopper(it->stopper);
+    return NULL;
+}
+
+/* Runs a script that doesn't end by itself, and that another thread stops. */
+static uint32_t run_stopped(stratbench_session *handle, const char *script) {
+    struct waiting it = {stopper_of(handle), growths + 100000, 0};
+    pthread_t other;
+    CHECK(pthread_create(&other, NULL, stop_later, &it) == 0);
+    uint32_t status = run_long(handle, script);
+    it.has_ended = 1;
+    CHECK(pthread_join(other, NULL) == 0);
+    return status;
+}
+
+/* Another thread stops a run. What was answered before stays, and so does the session. */
+static void stopped_by_a_thread(void) {
+    stratbench_session *handle = begin();
+    CHECK(stratbench_limits(handle, 100000, MOST_STEPS) == STRATBENCH_ACCEPTED);
+    CHECK(stratbench_explain(handle, 1) == STRATBENCH_ACCEPTED);
+    CHECK(run_stopped(handle, "tree t g(2)\nshow u\n" ENDLESS "\ntree t h(3)") == STRATBENCH_STOPPED);
+    CHECK(answers_are(handle, "ok\nrefused 5 notree\n") && ends_are(handle, 2, (const size_t[]){3, 20}));
+    CHECK(hints_are(handle, "line 2: refused 5 notree: there is no tree `u`\n    there is `t`\n"));
+    /* the last command of a script, which ends with it */
+    CHECK(run_stopped(handle, ENDLESS) == STRATBENCH_STOPPED && answers_are(handle, ""));
+    CHECK(run_stopped(handle, "preview t do rec x(![1]; x)") == STRATBENCH_STOPPED && answers_are(handle, ""));
+    CHECK(run_stopped(handle, "begin\ntree t h(3)\n" ENDLESS "\ncommit") == STRATBENCH_STOPPED && answers_are(handle, "ok\nok\n"));
+    end_stopper(stopper_of(handle));
+    CHECK(run(handle, "show t\nabandon\nshow t\nhistory") == STRATBENCH_ACCEPTED);
+    CHECK(answers_are(handle, "h(3)\nok\ng(2)\nundo 1 redo 0\n"));
+    end(handle);
+}
+
+/* A stop stays until there is another stopper, and stops scripts alone. */
+static void stops_that_stay(void) {
+    stratbench_session *handle = begin();
+    CHECK(run(handle, "tree t g(2)") == STRATBENCH_ACCEPTED);
+    stratbench_stopper *first = stopper_of(handle), *next;
+    const size_t none = 0;
+    CHECK(run(handle, "show t") == STRATBENCH_ACCEPTED && answers_are(handle, "g(2)\n"));
+    CHECK(stratbench_stop(first) == STRATBENCH_ACCEPTED && stratbench_stop(first) == STRATBENCH_ACCEPTED);
+    CHECK(answers_are(handle, "g(2)\n"));
+    for (int i = 0; i < 2; i++) {
+        CHECK(run(handle, "drop t") == STRATBENCH_STOPPED && answers_are(handle, "") && ends_are(handle, 0, &none));
+        CHECK(stratbench_lines(handle, (const uint8_t *)"undo\n", 5, 1) == STRATBENCH_STOPPED && answers_are(handle, ""));
+        CHECK(run(handle, "# nothing to answer") == STRATBENCH_ACCEPTED);
+    }
+    CHECK(show(handle, "t") == STRATBENCH_ACCEPTED && answers_are(handle, "g(2)\n"));
+    CHECK(load(stratbench_tree, handle, "u", "1") == STRATBENCH_ACCEPTED && stratbench_library(handle) == STRATBENCH_ACCEPTED);
+    /* it stays where the session begins anew, and once its own handle is gone */
+    CHECK(stratbench_limits(handle, 100000, 1000000) == STRATBENCH_ACCEPTED);
+    CHECK(run(handle, "trees") == STRATBENCH_STOPPED);
+    end_stopper(first);
+    CHECK(run(handle, "trees") == STRATBENCH_STOPPED);
+    /* the stopper before no longer stops the session */
+    first = stopper_of(handle);
+    next = stopper_of(handle);
+    CHECK(stratbench_stop(first) == STRATBENCH_ACCEPTED);
+    CHECK(run(handle, "trees") == STRATBENCH_ACCEPTED && answers_are(handle, "trees\n"));
+    CHECK(stratbench_stop(next) == STRATBENCH_ACCEPTED && run(handle, "trees") == STRATBENCH_STOPPED);
+    end_stopper(first);
+    end(handle);
+    /* a stopper may outlast its session */
+    CHECK(stratbench_stop(next) == STRATBENCH_ACCEPTED);
+    end_stopper(next);
+}
+
+/* A stopper without memory stops nothing, and the one before goes on. */
+static void stoppers_without_memory(void) {
+    stratbench_session *handle = begin();
+    CHECK(run(handle, "tree t g(2)") == STRATBENCH_ACCEPTED);
+    refuse(1, 1);
+    stratbench_stopper *none = stopper_of(handle);
+    CHECK(growths == 1);
+    refuse_none();
+    CHECK(stratbench_stop(none) == STRATBENCH_NO_MEMORY && run(handle, "show t") == STRATBENCH_ACCEPTED);
+    stratbench_stopper *first = stopper_of(handle);
+    end_stopper(none);
+    refuse(1, 1);
+    none = stopper_of(handle);
+    refuse_none();
+    CHECK(stratbench_stop(none) == STRATBENCH_NO_MEMORY && run(handle, "show t") == STRATBENCH_ACCEPTED);
+    CHECK(stratbench_stop(first) == STRATBENCH_ACCEPTED && run(handle, "show t") == STRATBENCH_STOPPED);
+    end_stopper(none);
+    end_stopper(first);
+    end(handle);
+}
+
 /* Begins a session with a tree `long`, of this many elements. */
 static stratbench_session *begin_with_list(int elements) {
     stratbench_session *handle = begin();
@@ -420,6 +544,10 @@ static void no_session(void) {
         CHECK(stratbench_explain(handle, 1) == (is_there ? STRATBENCH_ACCEPTED : STRATBENCH_NO_MEMORY));
         CHECK(run(handle, "tree t 1") == (is_there ? STRATBENCH_ACCEPTED : STRATBENCH_NO_MEMORY));
         CHECK(answers_are(handle, is_there ? "ok\n" : ""));
+        stratbench_stopper *stopper = stopper_of(handle);
+        CHECK(stratbench_stop(stopper) == (is_there ? STRATBENCH_ACCEPTED : STRATBENCH_NO_MEMORY));
+        CHECK(run(handle, "show t") == (is_there ? STRATBENCH_STOPPED : STRATBENCH_NO_MEMORY));
+        end_stopper(stopper);
         end(handle);
     }
 }
@@ -434,7 +562,7 @@ static void about(void) {
     CHECK(strstr(stratbench_misfit(STRATBENCH_VERSION_MAJOR + 1, 0), "another major version") != NULL);
     CHECK(strstr(stratbench_misfit(STRATBENCH_VERSION_MAJOR + 1, 0), STRATBENCH_VERSION) != NULL);
     const char *text = stratbench_status_text(STRATBENCH_ACCEPTED);
-    for (uint32_t status = STRATBENCH_REFUSED; status <= STRATBENCH_NO_LIMITS + 1; status++) {
+    for (uint32_t status = STRATBENCH_REFUSED; status <= STRATBENCH_STOPPED + 1; status++) {
         CHECK(strcmp(text, stratbench_status_text(status)) != 0);
         text = stratbench_status_text(status);
     }
@@ -443,6 +571,7 @@ static void about(void) {
     CHECK(strstr(stratbench_status_text(STRATBENCH_NO_MEMORY), "no memory") != NULL);
     CHECK(strstr(stratbench_status_text(STRATBENCH_NO_BUDGET), "steps") != NULL);
     CHECK(strstr(stratbench_status_text(STRATBENCH_NO_LIMITS), "limits") != NULL);
+    CHECK(strstr(stratbench_status_text(STRATBENCH_STOPPED), "stopped") != NULL);
 }
 
 int main(void) {
@@ -452,7 +581,8 @@ int main(void) {
     } trials[] = {
         {"statuses", statuses}, {"budgets", budgets}, {"limits", limits}, {"ends", ends}, {"framings", framings}, {"copies", copies}, {"loads", loads},
         {"long tree", long_tree}, {"trees shown", trees_shown}, {"explanations", explanations}, {"many calls", many_calls},
-        {"side by side", side_by_side}, {"refused growths", refused_growths}, {"limited blocks", limited_blocks},
+        {"side by side", side_by_side}, {"stopped by a thread", stopped_by_a_thread}, {"stops that stay", stops_that_stay},
+        {"stoppers without memory", stoppers_without_memory}, {"refused growths", refused_growths}, {"limited blocks", limited_blocks},
         {"loads without memory", loads_without_memory}, {"limits without memory", limits_without_memory}, {"no session", no_session}, {"what the library says of itself", about},
     };
     int wrong = 0;

@@ -1,5 +1,5 @@
 -- How far a script has come.
-use Rattle.std.proofs.Common.{◌≡◌, ◌<◌, ◌+◌, ◌&&◌, ℕ, Bool, true, false, not, cond, List, [], ◌∷◌, ◌++◌, Some, None, is_some, refl, sym, ap, ◌∙◌, subst, append_assoc, append-nil, length, length-append, take, drop, take-append-drop, arith}
+use Rattle.std.proofs.Common.{◌≡◌, ◌<◌, ◌+◌, ◌&&◌, ℕ, Bool, true, false, not, cond, List, [], ◌∷◌, ◌++◌, Some, None, is_some, Ok, Err, refl, sym, ap, ◌∙◌, subst, append_assoc, append-nil, length, length-append, take, drop, take-append-drop, arith}
 use Rattle.std.specs.declared.option.Option.{Option}
 use Rattle.std.specs.Option.{option_to_list}
 use Rattle.std.specs.Prelude.{is_ok, is_err, count_by}
@@ -15,10 +15,12 @@ use Rattle.script_text.specs.Splitting.{StandsAfter, rest_of}
 use Rattle.script_text.specs.Split.{Split}
 use Rattle.script_text.specs.FedRight.{FedRight}
 use Rattle.script_text.specs.Replies.{Reply, Replying, history_after, written}
-use Rattle.script_text.specs.Answer.{ReplyInRun}
+use Rattle.script_text.specs.Answer.{Answered, ReplyInRun}
 use Rattle.script_text.specs.Run.{Replied, out}
 use Rattle.script_text.specs.inside.Counting.{one_if}
-use Rattle.stratbench_c.specs.Status.{status_of}
+use Rattle.stratbench_c.specs.declared.answers.Unanswered.{Unanswered}
+use Rattle.stratbench_c.specs.declared.answers.Unanswered.TheVariants.{Memory, Stopped}
+use Rattle.stratbench_c.specs.Status.{HasCause, ended_by, status_of}
 use Rattle.stratbench_c.specs.declared.bench.Work.{Work}
 use Rattle.stratbench_c.specs.Runs.{Adds, AnswersAll, AnswersSome, Ran, ends_from}
 
@@ -89,6 +91,20 @@ whole_ran : (framing : Framing) (steps : ℕ) (script : List ℕ) (old new : Wor
 whole_ran framing steps script old new true w =
     subst (λ (n : ℕ). AnswersAll (ReplyInRun extended steps) (handed framing script) old.session new.session new.answers new.ends.items n) w.counts w.all
 whole_ran framing steps script old new false w = (w.no, w.counts, w.all)
+
+-- A command isn't answered. Only where there is a stop is it left out for that.
+pub some_ran : (framing : Framing) (steps : ℕ) (script : List ℕ) (old new : Work) (why : Unanswered) → HasCause why (is_some old.stop) →
+    AnswersSome (ReplyInRun extended steps) (handed framing script) old.session new.session new.answers new.ends.items → Ran framing steps script (ended_by why) old new
+some_ran framing steps script old new Memory cause some = some
+some_ran framing steps script old new Stopped cause some = (cause, some)
+
+-- A refused command leaves the session as it was.
+pub refused_stays : (Rule : Replying) (command : Handed) (old new : History) (answer : List ℕ) (accepted : Bool) → accepted ≡ false → Answered Rule command old new answer accepted → new ≡ old
+refused_stays Rule command old new answer accepted refused a = stays a.reply a.history (sym a.accepted ∙ refused)
+  where
+    stays : (reply : Reply) → new ≡ history_after old reply → is_ok reply ≡ false → new ≡ old
+    stays (Ok it) after e = absurd (cc)
+    stays (Err refusal) after e = after
 
 -- The script but for the rest is taken, and the commands that it completes are answered.
 pub record Progress (framing : Framing) (Rule : Replying) (script rest : List ℕ) (h g : History) (answers ends : List ℕ) (accepted : Bool) (left : Unfinished) : Type 0 where

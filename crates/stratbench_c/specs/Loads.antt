@@ -14,7 +14,7 @@ use Rattle.script_text.specs.Answer.{TellsRefusal}
 use Rattle.session_loading.specs.declared.library.TheConstants.{LIBRARY, LIBRARY_NAME}
 use Rattle.stratbench_c.specs.declared.bench.Work.{Work}
 use Rattle.stratbench_c.specs.declared.status.Status.{Status}
-use Rattle.stratbench_c.specs.declared.status.Status.TheVariants.{Accepted, Refused, Cut, NoMemory}
+use Rattle.stratbench_c.specs.declared.status.Status.TheVariants.{Accepted, Refused, Cut, NoMemory, Stopped}
 use Rattle.stratbench_c.specs.Status.{code_of}
 
 -- what a text does under a name, at a history
@@ -34,11 +34,12 @@ Loaded Comes Refused old new =
     × ((refusal : Refusal) × ((refusal ≡ Memory) ⊎ Comes (Err refusal)) × TellsRefusal new.answers refusal)
 Loaded Comes Cut old new = ⊥
 Loaded Comes NoMemory old new = ⊥
+Loaded Comes Stopped old new = ⊥
 
 -- the same at a handle, where there may be no session
 abbrev pub LoadedAt : Loading → List ℕ → List ℕ → Status → Option Work → Option Work → Type 0
 LoadedAt Loads name text status (Some old) (Some new) =
-    Loaded (LoadsNamed Loads name text old.session) status old new × (new.ends.items ≡ [])
+    Loaded (LoadsNamed Loads name text old.session) status old new × (new.ends.items ≡ []) × (new.stop ≡ old.stop)
 LoadedAt Loads name text status None None = status ≡ NoMemory
 LoadedAt Loads name text status (Some old) None = ⊥
 LoadedAt Loads name text status None (Some new) = ⊥
@@ -70,11 +71,12 @@ Shown Tells Accepted answer = Tells (Ok answer)
 Shown Tells Refused answer = (refusal : Refusal) × ((refusal ≡ Memory) ⊎ Tells (Err refusal)) × TellsRefusal answer refusal
 Shown Tells Cut answer = ⊥
 Shown Tells NoMemory answer = ⊥
+Shown Tells Stopped answer = ⊥
 
 -- the same at a handle, where there may be no session
 abbrev pub ShownAt : List ℕ → Status → Option Work → Option Work → Type 0
 ShownAt name status (Some old) (Some new) =
-    (new.session ≡ old.session) × Shown (Shows name old.session) status new.answers × (new.ends.items ≡ [])
+    (new.session ≡ old.session) × Shown (Shows name old.session) status new.answers × (new.ends.items ≡ []) × (new.stop ≡ old.stop)
 ShownAt name status None None = status ≡ NoMemory
 ShownAt name status (Some old) None = ⊥
 ShownAt name status None (Some new) = ⊥

@@ -1,5 +1,5 @@
 -- What a script does to what lies at a handle.
-use Rattle.std.specs.Prelude.{◌≡◌, ◌<◌, ◌≤◌, ◌⊎◌, ℕ, ◌+◌, Bool, false, List, [], ◌∷◌, ◌++◌, Some, None, IfSome, length, drop, count_by, is_err}
+use Rattle.std.specs.Prelude.{◌≡◌, ◌<◌, ◌≤◌, ◌⊎◌, ℕ, ◌+◌, Bool, true, false, is_some, if◌then◌else◌, List, [], ◌∷◌, ◌++◌, Some, None, IfSome, length, drop, count_by, is_err}
 use Rattle.std.specs.declared.option.Option.{Option}
 use Rattle.prim_extended.specs.Extended.{extended}
 use Rattle.prim_extended.specs.ExtendedTable.{extended_signatures}
@@ -15,7 +15,8 @@ use Rattle.script_text.specs.Answer.{Answered, ReplyInRun}
 use Rattle.script_text.specs.Run.{Replied, out}
 use Rattle.stratbench_c.specs.declared.bench.Work.{Work}
 use Rattle.stratbench_c.specs.declared.status.Status.{Status}
-use Rattle.stratbench_c.specs.declared.status.Status.TheVariants.{Accepted, Refused, Cut, NoMemory}
+use Rattle.stratbench_c.specs.declared.status.Status.TheVariants.{Accepted, Refused, Cut, NoMemory, Stopped}
+use Rattle.stratbench_c.specs.declared.stopping.Stopper.{Stopper}
 use Rattle.stratbench_c.specs.declared.status.TheConstants.{NO_BUDGET, NO_LIMITS}
 use Rattle.stratbench_c.specs.Status.{code_of}
 
@@ -24,6 +25,10 @@ pub record Adds (Rule : Replying) (command : Handed) (h g : History) (old new : 
   pub answer : List ℕ
   pub answered : Answered Rule command h g answer accepted
   pub added : new ≡ old ++ answer
+
+-- all but what the runs of the session heed
+abbrev pub IsUntouched : Work → Work → Type 0
+IsUntouched old new = (new.session ≡ old.session) × (new.answers ≡ old.answers) × (new.ends ≡ old.ends) × (new.hints ≡ old.hints)
 
 -- where the answers end that are written to these replies, one after the other from this place on
 abbrev pub ends_from : ℕ → List Reply → List ℕ
@@ -51,7 +56,7 @@ pub record AnswersSome (Rule : Replying) (commands : List Handed) (h g : History
   pub answered : AnswersAll Rule first h g answers ends refused
 
 -- What a script does to a session and its answers, by its status. The budget is that of commands that
--- name none.
+-- name none. Only a session that has a stopper may be stopped, and no call but that for a stopper gives it one.
 abbrev pub Ran : Framing → ℕ → List ℕ → Status → Work → Work → Type 0
 Ran framing steps script Accepted old new =
     AnswersAll (ReplyInRun extended steps) (handed framing script) old.session new.session new.answers new.ends.items 0
@@ -62,10 +67,13 @@ Ran framing steps script Cut old new =
     AnswersSome (ReplyInRun extended steps) (handed framing script) old.session new.session new.answers new.ends.items
 Ran framing steps script NoMemory old new =
     (new.session ≡ old.session) × (new.answers ≡ old.answers) × (new.ends ≡ old.ends)
+Ran framing steps script Stopped old new =
+    (is_some old.stop ≡ true)
+    × AnswersSome (ReplyInRun extended steps) (handed framing script) old.session new.session new.answers new.ends.items
 
 -- the same at a handle, where there may be no session
 abbrev pub RanAt : Framing → ℕ → List ℕ → Status → Option Work → Option Work → Type 0
-RanAt framing steps script status (Some old) (Some new) = Ran framing steps script status old new
+RanAt framing steps script status (Some old) (Some new) = Ran framing steps script status old new × (new.stop ≡ old.stop)
 RanAt framing steps script status None None = status ≡ NoMemory
 RanAt framing steps script status (Some old) None = ⊥
 RanAt framing steps script status None (Some new) = ⊥
@@ -88,7 +96,7 @@ IsNewWithin limits it =
 
 -- what lies at a new handle
 abbrev pub IsNew : Option Work → Type 0
-IsNew work = IfSome work (IsNewWithin default_limits)
+IsNew work = IfSome work (λ it. IsNewWithin default_limits it × (it.stop ≡ None))
 
 -- ---- limits
 
@@ -98,9 +106,9 @@ AreLimits limits =
     (default_limits.max_terms ≤ limits.max_terms) × (limits.max_terms ≤ MAX_ROOM)
     × (default_limits.max_steps ≤ limits.max_steps) × (limits.max_steps ≤ MOST_STEPS)
 
--- The session begins anew with these limits; or all stays, for want of memory.
+-- The session begins anew with these limits, with the stopper that it had; or all stays, for want of memory.
 abbrev pub LimitedAt : Limits → Status → Option Work → Option Work → Type 0
-LimitedAt limits Accepted (Some old) (Some new) = IsNewWithin limits new
+LimitedAt limits Accepted (Some old) (Some new) = IsNewWithin limits new × (is_some new.stop ≡ is_some old.stop)
 LimitedAt limits NoMemory old new = new ≡ old
 LimitedAt limits status old new = ⊥
 
@@ -109,6 +117,22 @@ abbrev pub TellsLimited : Limits → ℕ → Option Work → Option Work → Typ
 TellsLimited limits code old new =
     ((code ≡ NO_LIMITS) × (AreLimits limits → ⊥) × (new ≡ old))
     ⊎ (AreLimits limits × ((status : Status) × (code ≡ code_of status) × LimitedAt limits status old new))
+
+-- ---- stoppers
+
+-- A stopper is made, which the session heeds; all else at the handle stays. Or there is none, for want of
+-- memory, and all stays.
+abbrev pub Makes : Bool → Option Work → Option Work → Type 0
+Makes true (Some old) (Some new) = (is_some new.stop ≡ true) × IsUntouched old new
+Makes true old new = ⊥
+Makes false old new = new ≡ old
+
+abbrev pub MakesStopper : Stopper → Option Work → Option Work → Type 0
+MakesStopper made = Makes (is_some made.stop)
+
+-- What asking for a stop does, by its number. That a run sees it is no matter of a clause.
+abbrev pub TellsStop : ℕ → Stopper → Stopper → Type 0
+TellsStop code old new = (code ≡ code_of (if is_some old.stop then Accepted else NoMemory)) × (new ≡ old)
 
 -- the answers of the last call
 abbrev pub answers_of : Option Work → List ℕ
@@ -125,10 +149,10 @@ abbrev pub hints_of : Option Work → List ℕ
 hints_of None = []
 hints_of (Some work) = work.hints
 
--- The session and its answers stay.
+-- The session, its answers and its stopper stay.
 abbrev pub ExplainedAt : Status → Option Work → Option Work → Type 0
 ExplainedAt status (Some old) (Some new) =
-    (status ≡ Accepted) × (new.session ≡ old.session) × (new.answers ≡ old.answers) × (new.ends ≡ old.ends)
+    (status ≡ Accepted) × (new.session ≡ old.session) × (new.answers ≡ old.answers) × (new.ends ≡ old.ends) × (new.stop ≡ old.stop)
 ExplainedAt status None None = status ≡ NoMemory
 ExplainedAt status (Some old) None = ⊥
 ExplainedAt status None (Some new) = ⊥

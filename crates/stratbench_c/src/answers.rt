@@ -1,16 +1,17 @@
 //! The answers of a call, in a buffer whose room stays for the next call.
 
-ghost use Rattle.std.specs.Prelude.{◌≡◌, ◌++◌, [], length, IfOk, OnOk, OnErr, IfErr, false, if◌then◌else◌};
+ghost use Rattle.std.specs.Prelude.{◌≡◌, ◌++◌, [], length, IfOk, OnOk, OnErr, IfErr, true, false, is_some, if◌then◌else◌};
 ghost use Rattle.script_text.specs.Answer.{ReplyInRun, TellsRefusal};
 ghost use Rattle.script_text.specs.FedRight.{handed_out};
 ghost use Rattle.stratbench_c.specs.Loads.{Shows, Shown};
 ghost use Rattle.stratbench_c.specs.Runs.{Adds, AreCopied};
+ghost use Rattle.stratbench_c.specs.Status.{HasCause};
 
 use crate::showing::write_tree;
 use crate::status::Status;
 use prim_core::Meaning;
 use script_core::{Answer, Piece, Watch, answer_watched};
-use session_core::{Refusal, Session};
+use session_core::{Refusal, Session, Stop};
 use std::alloc::Global;
 use std::marker::Model;
 use term_core::NoMemory;
@@ -35,6 +36,15 @@ impl Model for Answers {
     ghost view = { λ a. a.others.items ++ (if a.follows then a.last else []) };
 }
 
+/// Why a command isn't answered.
+#[derive(Drop)]
+pub enum Unanswered {
+    /// Memory couldn't grow for the answers so far.
+    Memory,
+    /// It was stopped, or would have been.
+    Stopped,
+}
+
 impl Answers {
     /// None yet.
     pub fn new(alloc: Global) -> Result<Answers, NoMemory>
@@ -57,24 +67,38 @@ impl Answers {
     }
 
     /// Answers one more command, and returns whether it was accepted. `budget` is that of a command
-    /// that names none. The observer sees the command and how it is answered.
+    /// that names none. The observer sees the command and how it is answered. `stop` is what the
+    /// runs of the session heed.
     ///
-    /// Errors: if memory can't grow for the answers so far, the command isn't run, and all stays.
+    /// Errors: if memory can't grow for the answers so far, or the stop is asked for by then, the
+    /// command isn't run, and all stays. A command that is refused once it is asked for isn't
+    /// answered: it is taken as one that wasn't run.
+    #[tactic(auto, using(crate::proofs::ProgressLemmas::refused_stays))]
     pub fn add<M: Meaning, W: Watch<M>>(
         &mut self,
         alloc: Global,
         session: &mut Session<M>,
         command: Piece<'_>,
         budget: u32,
+        stop: Option<&Stop>,
         watch: &mut W,
-    ) -> Result<bool, NoMemory>
+    ) -> Result<bool, Unanswered>
         ensures ok { IfOk result (λ accepted. Adds (ReplyInRun M.meaning budget) (handed_out command.entry)
             session.old session.new self.old self.new accepted) }
         ensures answers { OnErr result (self.new ≡ self.old) }
         ensures session { OnErr result (session.new ≡ session.old) }
+        ensures cause { IfErr result (λ why. HasCause why (is_some stop.entry)) }
     {
-        gather(&mut self.others, &self.last, &mut self.follows)?;
+        let Ok(()) = gather(&mut self.others, &self.last, &mut self.follows) else {
+            return Err(Unanswered::Memory);
+        };
+        if is_asked(stop) {
+            return Err(Unanswered::Stopped);
+        }
         let accepted = answer_watched(alloc, session, command, budget, &mut self.last, watch);
+        if !accepted && is_asked(stop) {
+            return Err(Unanswered::Stopped);
+        }
         self.follows = true;
         Ok(accepted)
     }
@@ -127,6 +151,17 @@ impl Answers {
         ensures { AreCopied self.now out.old out.new result }
     {
         copy_both(&self.others, following(&self.last, self.follows), out)
+    }
+}
+
+// Whether there is a stop that is asked for.
+#[inline(always)]
+fn is_asked(stop: Option<&Stop>) -> bool
+    ensures { (result ≡ true) → (is_some stop.entry ≡ true) }
+{
+    match stop {
+        Some(stop) => stop.is_asked(),
+        None => false,
     }
 }
 

@@ -1,20 +1,21 @@
 //! What lies at a handle.
 
-ghost use Rattle.std.specs.Prelude.{◌≡◌, ◌≤◌, ◌++◌, ◌∷◌, [], length, IfErr, IfOk, OnErr, OnOk};
+ghost use Rattle.std.specs.Prelude.{◌≡◌, ◌≤◌, ◌++◌, ◌∷◌, [], length, None, true, is_some, IfErr, IfOk, OnErr, OnOk};
 ghost use Rattle.prim_extended.specs.Extended.{extended};
 ghost use Rattle.term_core.specs.declared.TheConstants.{MAX_ROOM};
 ghost use Rattle.script_text.specs.Answer.{ReplyInRun, TellsRefusal};
 ghost use Rattle.script_text.specs.FedRight.{handed_out};
 ghost use Rattle.script_text.specs.declared.framing.Framing.TheVariants.{Continued, Lines};
-ghost use Rattle.stratbench_c.specs.Runs.{Adds, AreCopied, ExplainedAt, IsNew, IsNewWithin, LimitedAt, Ran, RanAt, TellsExplained, TellsLimited, TellsRun, answers_of, ends_of, hints_of, most_steps as most_steps_of};
+ghost use Rattle.stratbench_c.specs.Status.{HasCause};
+ghost use Rattle.stratbench_c.specs.Runs.{Adds, AreCopied, ExplainedAt, IsNew, IsNewWithin, IsUntouched, LimitedAt, Ran, RanAt, TellsExplained, TellsLimited, TellsRun, answers_of, ends_of, hints_of, most_steps as most_steps_of};
 
-use crate::answers::Answers;
+use crate::answers::{Answers, Unanswered};
 use crate::hints::Hints;
 use crate::status::{NO_BUDGET, NO_LIMITS, Status};
 use prim_core::Primitives;
 use prim_extended::{Extended, extended_primitives};
 use script_core::{Fed, Framing, Piece, Splitter};
-use session_core::{Limits, MAX_BUDGET, Refusal, Session};
+use session_core::{Limits, MAX_BUDGET, Refusal, Session, Stop};
 use session_history::MOST_STEPS;
 use std::alloc::Global;
 use term_core::{MAX_ROOM, NoMemory};
@@ -35,13 +36,16 @@ pub struct Work {
     pub answers: Answers,
     pub ends: Vec<usize>,
     pub hints: Hints,
+    /// What the runs of the session heed, once there was a stopper for it.
+    pub stop: Option<Stop>,
 }
 
 impl Work {
     /// A session without trees and modules.
     pub fn new(alloc: Global, limits: Limits) -> Result<Work, NoMemory>
         requires { limits.max_terms ≤ MAX_ROOM }
-        ensures { IfOk result (IsNewWithin limits) }
+        ensures new { IfOk result (IsNewWithin limits) }
+        ensures stop { IfOk result (λ work. work.stop ≡ None) }
     {
         let primitives = extended_primitives(alloc)?;
         let answers = Answers::new(alloc)?;
@@ -50,13 +54,29 @@ impl Work {
             answers,
             ends: Vec::new(alloc),
             hints: Hints::new(alloc),
+            stop: None,
         })
+    }
+
+    /// Has the session heed this stop, in place of the one before.
+    ///
+    /// Errors: want of memory. All stays then.
+    pub fn heed(&mut self, stop: &Stop) -> Result<(), NoMemory>
+        ensures ok { OnOk result (is_some self.new.stop ≡ true) }
+        ensures untouched { IsUntouched self.old self.new }
+        ensures err { OnErr result (self.new ≡ self.old) }
+    {
+        let (here, there) = (stop.share()?, stop.share()?);
+        self.session.heed(there);
+        self.stop = Some(here);
+        Ok(())
     }
 
     /// Answers the commands of the script, in place of the answers of the last one. The last
     /// command ends with the script.
     pub fn run(&mut self, alloc: Global, script: &[u8], framing: Framing, steps: u32) -> Status
-        ensures { Ran framing steps script.now result self.old self.new }
+        ensures ran { Ran framing steps script.now result self.old self.new }
+        ensures stop { self.new.stop ≡ self.old.stop }
     {
         self.hints.begin(framing, steps);
         let Ok(mut splitter) = Splitter::new(alloc, framing) else {
@@ -71,7 +91,7 @@ impl Work {
             rest = &rest[taken..];
             match self.answer(alloc, splitter.command(), steps) {
                 Ok(verdict) => accepted &= verdict,
-                Err(NoMemory) => return Status::Cut,
+                Err(why) => return Status::unanswered(why),
             }
         }
         self.hints.consume(rest);
@@ -80,26 +100,56 @@ impl Work {
         }
         match self.answer(alloc, splitter.command(), steps) {
             Ok(verdict) => Status::answered(accepted & verdict),
-            Err(NoMemory) => Status::Cut,
+            Err(why) => Status::unanswered(why),
         }
     }
 
-    // Answers one more command.
-    fn answer(&mut self, alloc: Global, command: Piece<'_>, steps: u32) -> Result<bool, NoMemory>
+    // Answers one more command. Of one that isn't answered nothing is said.
+    fn answer(&mut self, alloc: Global, command: Piece<'_>, steps: u32) -> Result<bool, Unanswered>
         ensures ok { IfOk result (λ accepted. Adds (ReplyInRun extended steps) (handed_out command.entry)
             self.old.session self.new.session self.old.answers self.new.answers accepted) }
         ensures ends { OnOk result (self.new.ends.items ≡ self.old.ends.items ++ length self.new.answers ∷ []) }
         ensures answers { OnErr result (self.new.answers ≡ self.old.answers) }
         ensures same_ends { OnErr result (self.new.ends.items ≡ self.old.ends.items) }
         ensures session { OnErr result (self.new.session ≡ self.old.session) }
+        ensures cause { IfErr result (λ why. HasCause why (is_some self.old.stop)) }
+        ensures stop { self.new.stop ≡ self.old.stop }
     {
         // the room comes first, since the answer isn't taken back
-        self.ends.reserve(1)?;
-        let accepted = self
-            .answers
-            .add(alloc, &mut self.session, command, steps, &mut self.hints)?;
-        self.ends.push_reserved(self.answers.len());
-        Ok(accepted)
+        let Ok(()) = self.ends.reserve(1) else {
+            return Err(Unanswered::Memory);
+        };
+        let said = self.hints.len();
+        let added = self.answers.add(
+            alloc,
+            &mut self.session,
+            command,
+            steps,
+            self.stop.as_ref(),
+            &mut self.hints,
+        );
+        match added {
+            Ok(accepted) => {
+                self.ends.push_reserved(self.answers.len());
+                Ok(accepted)
+            }
+            Err(why) => {
+                self.hints.take_back_to(said);
+                Err(why)
+            }
+        }
+    }
+
+    // Begins the session anew within these limits, with the stop that it heeds, if there is one.
+    fn begin_anew(&mut self, alloc: Global, limits: Limits) -> Result<(), NoMemory>
+        requires { limits.max_terms ≤ MAX_ROOM }
+        ensures new { OnOk result (IsNewWithin limits self.new) }
+        ensures stop { OnOk result (is_some self.new.stop ≡ is_some self.old.stop) }
+        ensures err { OnErr result (self.new ≡ self.old) }
+    {
+        let new = begun_anew(alloc, limits, &self.stop)?;
+        *self = new;
+        Ok(())
     }
 
     /// Says how a load ended. The answer is the refusal, if there is one. `word` is the command
@@ -112,6 +162,7 @@ impl Work {
         outcome: Result<(), Refusal>,
     ) -> Status
         ensures session { self.new.session ≡ self.old.session }
+        ensures stop { self.new.stop ≡ self.old.stop }
         ensures ends { self.new.ends.items ≡ [] }
         ensures ok { OnOk outcome ((result ≡ Status.Accepted) × (self.new.answers ≡ [])) }
         ensures refused { IfErr outcome (λ refusal. (result ≡ Status.Refused) × TellsRefusal self.new.answers refusal) }
@@ -161,13 +212,23 @@ fn limited_at(bench: &mut Bench, limits: Limits) -> Status
     let Some(work) = &mut bench.work else {
         return Status::NoMemory;
     };
-    match Work::new(alloc, limits) {
-        Ok(new) => {
-            *work = new;
-            Status::Accepted
-        }
+    match work.begin_anew(alloc, limits) {
+        Ok(()) => Status::Accepted,
         Err(NoMemory) => Status::NoMemory,
     }
+}
+
+// A session without trees and modules that heeds this stop, if there is one.
+fn begun_anew(alloc: Global, limits: Limits, stop: &Option<Stop>) -> Result<Work, NoMemory>
+    requires { limits.max_terms ≤ MAX_ROOM }
+    ensures new { IfOk result (IsNewWithin limits) }
+    ensures stop { IfOk result (λ new. is_some new.stop ≡ is_some stop.now) }
+{
+    let mut new = Work::new(alloc, limits)?;
+    if let Some(stop) = stop {
+        new.heed(stop)?;
+    }
+    Ok(new)
 }
 
 /// Answers the commands of a script, which may go on over lines. Returns the number of its status,

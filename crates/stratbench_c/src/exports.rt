@@ -3,9 +3,11 @@
 ghost use Rattle.script_text.specs.declared.framing.Framing.TheVariants.{Continued, Lines};
 ghost use Rattle.session_loading.specs.Loading.{LoadsModule, LoadsTree};
 ghost use Rattle.stratbench_c.specs.Loads.{TellsLibrary, TellsLoad, TellsShown};
-ghost use Rattle.stratbench_c.specs.Runs.{AreCopied, IsNew, TellsExplained, TellsLimited, TellsRun, answers_of, ends_of, hints_of};
+ghost use Rattle.stratbench_c.specs.Runs.{AreCopied, IsNew, MakesStopper, TellsExplained, TellsLimited, TellsRun, TellsStop, answers_of, ends_of, hints_of};
 ghost use Rattle.stratbench_c.specs.declared.bench.Bench.{Bench as AnyBench};
 ghost use Rattle.stratbench_c.specs.contracts.bench.Bench as R;
+ghost use Rattle.stratbench_c.specs.declared.stopping.Stopper.{Stopper as AnyStopper};
+ghost use Rattle.stratbench_c.specs.contracts.stopping.Stopper as S;
 ghost use Rattle.std.specs.Prelude.{◌≡◌};
 ghost use base.Fraction.{full_share};
 ghost use prog.Memory.{capped, size};
@@ -19,6 +21,7 @@ use crate::bench::{
 };
 use crate::loads::{set_library, set_module, set_tree};
 use crate::showing::show_tree;
+use crate::stopping::{Stopper, ask_to_stop, end_stopper, make_stopper};
 use std::alloc::Global;
 
 /// The number of bytes at a handle: of the room that `stratbench_new` takes.
@@ -161,6 +164,50 @@ pub unsafe extern "C" fn stratbench_hints(handle: *mut u8, out: &mut [u8]) -> us
         ∗ ⌜ AreCopied (hints_of old.work) out.old out.new result ⌝ }
 {
     copy_hints(&mut *(handle as *mut Bench), out)
+}
+
+/// The number of bytes at a stopper's handle.
+#[unsafe(no_mangle)]
+pub extern "C" fn stratbench_stopper_size() -> usize
+    ensures { result ≡ capped (size (lone S.the_row.mir)) }
+{
+    std::mem::size_of::<Stopper>()
+}
+
+/// Makes a stopper for the session's scripts in the memory at its handle, in place of the one
+/// before.
+#[unsafe(no_mangle)]
+pub unsafe extern "C" fn stratbench_stopper_new(handle: *mut u8, stopper: *mut u8)
+    ghost old: { AnyBench }
+    requires* { sem 𝓛 (lies_at R.the_row full_share handle old)
+        ∗ sem 𝓛 (room_at S.the_row stopper) }
+    ensures* { ∃ₛ (λ (made : AnyStopper × AnyBench). sem 𝓛 (lies_at S.the_row full_share stopper made.0)
+        ∗ sem 𝓛 (lies_at R.the_row full_share handle made.1)
+        ∗ ⌜ MakesStopper made.0 old.work made.1.work ⌝) }
+{
+    (stopper as *mut Stopper).write(make_stopper(&mut *(handle as *mut Bench)));
+}
+
+/// Stops the script of the session that is answered, or else the next one. This may be called by
+/// another thread than the one of the session.
+#[unsafe(no_mangle)]
+pub unsafe extern "C" fn stratbench_stop(stopper: *mut u8) -> u32
+    ghost old: { AnyStopper }
+    requires* { sem 𝓛 (lies_at S.the_row full_share stopper old) }
+    ensures* { ∃ₛ (λ (new : AnyStopper). sem 𝓛 (lies_at S.the_row full_share stopper new)
+        ∗ ⌜ TellsStop result old new ⌝) }
+{
+    ask_to_stop(&mut *(stopper as *mut Stopper))
+}
+
+/// Ends the stopper. The memory at its handle is room again.
+#[unsafe(no_mangle)]
+pub unsafe extern "C" fn stratbench_stopper_drop(stopper: *mut u8)
+    ghost old: { AnyStopper }
+    requires* { sem 𝓛 (lies_at S.the_row full_share stopper old) }
+    ensures* { sem 𝓛 (room_at S.the_row stopper) }
+{
+    end_stopper((stopper as *mut Stopper).read());
 }
 
 /// Ends the session. The memory at the handle is room again.

@@ -89,6 +89,16 @@ impl Hints {
         self.text.text.clear();
     }
 
+    /// How long it is what was said so far.
+    pub fn len(&self) -> usize {
+        self.text.text.len()
+    }
+
+    /// Takes back what was said since then.
+    pub fn take_back_to(&mut self, len: usize) {
+        self.text.text.truncate(len);
+    }
+
     /// Begins a script. `steps` is the budget of a command that names none.
     pub fn begin(&mut self, framing: Framing, steps: u32) {
         self.clear();

@@ -1,7 +1,9 @@
 //! How a call ended, as a number for C.
 
 ghost use Rattle.std.specs.Prelude.{◌≡◌};
-ghost use Rattle.stratbench_c.specs.Status.{code_of, status_of};
+ghost use Rattle.stratbench_c.specs.Status.{code_of, ended_by, status_of};
+
+use crate::answers::Unanswered;
 
 /// How a script ended.
 #[derive(Clone, Copy, Debug, PartialEq, Eq)]
@@ -14,6 +16,8 @@ pub enum Status {
     Cut,
     /// There was no memory to begin with: nothing is done.
     NoMemory,
+    /// A stopper stopped the script: some first commands are answered, and no other is run.
+    Stopped,
 }
 
 /// The number for a budget that is not from 1 to the session's greatest.
@@ -34,6 +38,16 @@ impl Status {
         }
     }
 
+    /// The status of a script, one command of which isn't answered.
+    pub fn unanswered(why: Unanswered) -> Status
+        ensures { result ≡ ended_by why }
+    {
+        match why {
+            Unanswered::Memory => Status::Cut,
+            Unanswered::Stopped => Status::Stopped,
+        }
+    }
+
     /// The number that C gets.
     pub fn code(self) -> u32
         ensures { result ≡ code_of self }
@@ -43,6 +57,7 @@ impl Status {
             Status::Refused => 1,
             Status::Cut => 2,
             Status::NoMemory => 3,
+            Status::Stopped => 6,
         }
     }
 }
