@@ -33,7 +33,7 @@ from typing import Final, NamedTuple, Union
 
 from . import installed, versions
 from .diagnostics import Diagnostic, Told, others, parsed, told
-from .embedded import Embedded
+from .embedded import Embedded, Stopped as Stopped
 from .parts import Step, TooLong, Unbalanced, in_parts
 from .places import Command, Text
 from .process import Process
@@ -138,9 +138,9 @@ class Stratbench:
         >>> bench.show("t", at=[1] * 16)
         'a'
 
-    An `embedded` session takes no options and no `seconds`, and isn't stopped by Ctrl-C. The shared
+    An `embedded` session takes no options and no `seconds`, and isn't stopped by Ctrl-C; `stop` stops a call. The shared
     object is `program`, or what the environment's STRATBENCH_LIBRARY names, or `libstratbench.so`. It is used by one thread at a
-    time.
+    time, but for `stop`.
 
     A call that takes more than `seconds` raises `TimeoutError`, and ends the session; the attribute may be changed. What the
     program says of an accepted command, as the warnings of a module, is in `warnings` until the next command. With the option
@@ -211,6 +211,15 @@ class Stratbench:
             said = self._process.said()
             self.warnings = [*(Told(it.told()) for it in parsed(said)), *map(Told, filter(None, [_plain(others(said))]))]
         return self._process.end()
+
+    def stop(self) -> None:
+        """Stops the command that another thread waits for, in an `embedded` session: the call there raises `Stopped`, all is as it was
+        before the command, and the session goes on. Where no command is run, nothing happens. Any thread may call this, as that of a
+        `threading.Timer(60, bench.stop)`; but a handler of a signal is run by the main thread, once its own call has returned.
+        """
+        if not isinstance(self._process, Embedded):
+            raise ValueError("only an embedded session can be stopped")
+        self._process.stop()
 
     def run(self, command: str) -> str:
         """Runs a command as scripts have it, and returns its answer.
@@ -478,6 +487,8 @@ class Stratbench:
             lines = self._lines(word, command.sent)
         except EOFError:
             raise Ended(self._process.end(), _plain(self._process.said())) from None
+        except Stopped:
+            raise
         except BaseException as error:
             # the answer would be taken for that of the next command
             self._process.end(kill=True)

@@ -6,10 +6,11 @@ import functools
 import os
 import sys
 import threading
+import time
 
 import stratbench
 import try_client
-from stratbench import Ended, Refused, Stratbench
+from stratbench import Ended, Refused, Stopped, Stratbench
 from stratbench.versions import Misfit
 
 EMBEDDED = functools.partial(Stratbench, embedded=True)
@@ -87,6 +88,81 @@ def side_by_side():
     yield "their histories", "" if counts == [(401, 0)] * 4 else f"{counts}"
 
 
+# What a session that another thread stops says of the work there.
+def stopped(bench, work):
+    raised = []
+
+    def run():
+        try:
+            work()
+        except Stopped as why:
+            raised.append(str(why))
+
+    runner = threading.Thread(target=run)
+    runner.start()
+    clock = time.pthread_getcpuclockid(runner.ident)
+    # by then it is at what doesn't end by itself
+    while runner.is_alive() and time.clock_gettime(clock) < 0.2:
+        time.sleep(0.001)
+    bench.stop()
+    runner.join()
+    return raised
+
+
+def stops():
+    most = 4_000_000_000
+    endless = "rec x(![1]; x)"
+    bench = EMBEDDED(max_steps=most)
+    bench.tree("t", "g(2)")
+    bench.stop()
+    yield "a stop where nothing is run", "" if bench.show("t") == "g(2)" else "it stopped the next command"
+    raised = stopped(bench, lambda: bench.apply("t", endless, within=most))
+    yield "a run that another thread stops", "" if raised == ["another thread stopped it"] else f"{raised}"
+    yield "the session after it", "" if (bench.show("t"), bench.history()) == ("g(2)", (1, 0)) else f"{bench.history()}"
+    raised = stopped(bench, lambda: bench.preview("t", endless, within=most))
+    yield "a preview that another thread stops", "" if len(raised) == 1 and bench.trees() == ["t"] else f"{raised}"
+
+    def in_group():
+        with bench.group():
+            bench.tree("t", "h(3)")
+            bench.apply("t", endless, within=most)
+
+    raised = stopped(bench, in_group)
+    yield "a group that another thread stops", "" if len(raised) == 1 and (bench.show("t"), bench.history()) == ("g(2)", (1, 0)) else bench.show("t")
+    yield "the status after stops", "" if bench.close() == 0 else f"{bench.close()}"
+    bench.stop()
+    with EMBEDDED() as bench:
+        ended = threading.Event()
+
+        # stops all the time, so that some come as a command begins or ends
+        def stop_all():
+            while not ended.is_set():
+                bench.stop()
+
+        stopping = threading.Thread(target=stop_all)
+        stopping.start()
+        done = 0
+        for turn in range(500):
+            try:
+                bench.tree("t", f"f({turn})")
+                done += 1
+            except Stopped:
+                pass
+        ended.set()
+        stopping.join()
+        yield "a command for each step, whenever stops come", "" if bench.history() == (done, 0) else f"{bench.history()}, and not {done}"
+    yield "a process", unstoppable()
+
+
+def unstoppable():
+    with Stratbench() as bench:
+        try:
+            bench.stop()
+            return "it was stopped"
+        except ValueError:
+            return ""
+
+
 def forks():
     bench = EMBEDDED()
     bench.tree("t", "a")
@@ -105,4 +181,5 @@ def tests(top, everything):
     yield from try_client.long_texts()
     yield from ends()
     yield from side_by_side()
+    yield from stops()
     yield from forks()
