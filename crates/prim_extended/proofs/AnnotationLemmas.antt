@@ -1,15 +1,9 @@
 -- Terms without annotations.
 use Rattle.std.proofs.Common.{◌≡◌, ℕ, ◌+◌, ◌<◌, Bool, true, false, ◌&&◌, List, [], ◌∷◌, ◌++◌, length, take, get_or, refl, sym, ap, ◌∙◌, arith}
 use Rattle.std.proofs.lemmas.List.{take_more}
-use Rattle.term_core.specs.Tree.{Tree, integer, branch, none, more, of_list, children}
-use Rattle.term_core.specs.Size.{height, heights}
-use Rattle.term_core.proofs.TreeLemmas.{of_list-to_list}
+use Rattle.term_core.specs.Tree.{Tree, more, none, of_list}
 use Rattle.strategy_meaning.specs.Same.{same_tree, same_trees}
 use Rattle.prim_extended.specs.Annotations.{stripped, all_stripped}
-
-pub children_lower : (t : Tree) (us : List Tree) → us ≡ children t → heights (of_list us) < height t
-children_lower (integer z notes) us e = omega (arith, ap (λ l. heights (of_list l)) e)
-children_lower (branch h kids notes) us e = omega (arith, ap (λ l. heights (of_list l)) e, ap heights (of_list-to_list kids))
 
 append_stripped : (ms us : List Tree) (m u : Tree) → of_list ms ≡ all_stripped (of_list us) → m ≡ stripped u → of_list (ms ++ m ∷ []) ≡ all_stripped (of_list (us ++ u ∷ []))
 append_stripped [] [] m u e f = ap (λ x. more x none) f

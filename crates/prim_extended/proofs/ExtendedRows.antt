@@ -109,6 +109,17 @@ no_word = refl
 integer_with_children : extended (codes "mkterm") (pair (integer_term (pos 7)) (list_term (integer_term (pos 1) ∷ []))) ≡ None
 integer_with_children = refl
 
+-- ---- the order on terms
+
+integers_first : extended (codes "compare") (pair (noted (pos 9)) (word (codes "F") [])) ≡ Some (integer_term (negsuc 0))
+integers_first = refl
+
+the_same_term : extended (codes "compare") (pair (noted (pos 9)) (noted (pos 9))) ≡ Some (integer_term (pos 0))
+the_same_term = refl
+
+annotation_after : extended (codes "compare") (pair (noted (pos 9)) (integer_term (pos 9))) ≡ Some (integer_term (pos 1))
+annotation_after = refl
+
 -- ---- the names of the standard primitives, on all terms
 
 addi_agrees : (terms : List Tree) → extended (codes "addi") terms ≡ standard (codes "addi") terms

@@ -1,7 +1,7 @@
 -- The greatest number of a term that is no string.
 use Rattle.std.proofs.Common.{◌≡◌, ℕ, Bool, true, false, List, Some, None, refl, ap, if◌then◌else◌}
 use Rattle.std.specs.Prelude.{max}
-use Rattle.term_core.specs.Tree.{application, list, tuple, Tree, integer, branch, none, more, to_list, of_list, children}
+use Rattle.term_core.specs.Tree.{application, list, tuple, Tree, integer, branch, none, more, of_list, children}
 use Rattle.term_core.proofs.TreeLemmas.{of_list-to_list}
 use Rattle.prim_core.specs.Values.{string_value}
 use Rattle.prim_extended.specs.Greatest.{counted_after, greatest, greatest_of_all}

@@ -1,4 +1,4 @@
--- The meaning of the extended primitives: the standard ones, and nine more.
+-- The meaning of the extended primitives: the standard ones, and ten more.
 use Rattle.std.specs.Prelude.{ℕ, List, if◌then◌else◌, codes}
 use Rattle.std.specs.declared.option.Option.{Option}
 use Rattle.std.specs.Str.{bytes_eq}
@@ -6,6 +6,7 @@ use Rattle.term_core.specs.Tree.{Tree}
 use Rattle.prim_core.specs.Standard.{standard}
 use Rattle.prim_extended.specs.Annotations.{stripped_of, equal_of}
 use Rattle.prim_extended.specs.Bytes.{exploded_of, imploded_of, later_of}
+use Rattle.prim_extended.specs.Comparing.{compared_of}
 use Rattle.prim_extended.specs.Constructors.{taken_apart_of, put_together_of}
 use Rattle.prim_extended.specs.Greatest.{greatest_of}
 use Rattle.prim_extended.specs.Remainder.{remainder_of}
@@ -22,4 +23,5 @@ extended name arguments =
     if (bytes_eq name (codes "greatest-number")) then greatest_of arguments else
     if (bytes_eq name (codes "strip-annos")) then stripped_of arguments else
     if (bytes_eq name (codes "eq-ignore-annos")) then equal_of arguments else
+    if (bytes_eq name (codes "compare")) then compared_of arguments else
     standard name arguments

@@ -3,7 +3,7 @@ use Rattle.std.specs.Prelude.{ℕ, List, [], ◌∷◌, ◌++◌, codes}
 use Rattle.prim_core.specs.Signature.{Signature}
 use Rattle.prim_core.specs.StandardTable.{standard_signatures}
 use Rattle.prim_extended.specs.declared.operations.ExtendedOperation.{ExtendedOperation}
-use Rattle.prim_extended.specs.declared.operations.ExtendedOperation.TheVariants.{Addi, Subti, Muli, Divi, Gti, Strcat, Strlen, IntToString, StringToInt, ExplodeString, ImplodeString, Gts, Modi, StripAnnos, EqIgnoreAnnos, ExplodeTerm, Mkterm, GreatestNumber}
+use Rattle.prim_extended.specs.declared.operations.ExtendedOperation.TheVariants.{Addi, Subti, Muli, Divi, Gti, Strcat, Strlen, IntToString, StringToInt, ExplodeString, ImplodeString, Gts, Modi, StripAnnos, EqIgnoreAnnos, ExplodeTerm, Mkterm, GreatestNumber, Compare}
 
 abbrev signature : List ℕ → ℕ → Signature
 signature name arity = record { name = name; arity = arity }
@@ -15,7 +15,7 @@ extended_signatures = standard_signatures
     ∷ (signature (codes "gts") 2 ∷ (signature (codes "modi") 2
     ∷ (signature (codes "strip-annos") 1 ∷ (signature (codes "eq-ignore-annos") 2
     ∷ (signature (codes "explode-term") 1 ∷ (signature (codes "mkterm") 2
-    ∷ (signature (codes "greatest-number") 2 ∷ [])))))))))
+    ∷ (signature (codes "greatest-number") 2 ∷ (signature (codes "compare") 2 ∷ []))))))))))
 
 -- ---- each as a value
 
@@ -38,6 +38,7 @@ name_of EqIgnoreAnnos = codes "eq-ignore-annos"
 name_of ExplodeTerm = codes "explode-term"
 name_of Mkterm = codes "mkterm"
 name_of GreatestNumber = codes "greatest-number"
+name_of Compare = codes "compare"
 
 abbrev pub arity_of : ExtendedOperation → ℕ
 arity_of Addi = 2
@@ -58,3 +59,4 @@ arity_of EqIgnoreAnnos = 2
 arity_of ExplodeTerm = 1
 arity_of Mkterm = 2
 arity_of GreatestNumber = 2
+arity_of Compare = 2

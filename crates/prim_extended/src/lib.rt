@@ -1,10 +1,11 @@
-//! The standard primitives and nine more: strings as lists of bytes, the order of strings,
+//! The standard primitives and ten more: strings as lists of bytes, the order of strings,
 //! remainders, terms without annotations, equality but for these, terms as constructors with
-//! children, and the greatest number after a beginning of strings.
+//! children, the greatest number after a beginning of strings, and the order on terms.
 #![tactic(auto)]
 
 pub mod annotations;
 mod arguments;
+pub mod comparing;
 pub mod constructors;
 pub mod greatest;
 pub mod integers;
@@ -13,6 +14,7 @@ pub mod operations;
 pub mod strings;
 
 pub use annotations::{eq_ignore_annos, strip_annos};
+pub use comparing::compare;
 pub use constructors::{explode_term, mkterm};
 pub use greatest::greatest_number;
 pub use integers::modi;

@@ -5,6 +5,7 @@ ghost use Rattle.prim_extended.specs.Extended.{extended};
 ghost use Rattle.prim_extended.specs.ExtendedTable.{arity_of, extended_signatures, name_of};
 
 use crate::annotations::{eq_ignore_annos, strip_annos};
+use crate::comparing::compare;
 use crate::constructors::{explode_term, mkterm};
 use crate::greatest::greatest_number;
 use crate::integers::modi;
@@ -37,11 +38,12 @@ pub enum ExtendedOperation {
     ExplodeTerm,
     Mkterm,
     GreatestNumber,
+    Compare,
 }
 
 use ExtendedOperation::{
-    Addi, Divi, EqIgnoreAnnos, ExplodeString, ExplodeTerm, GreatestNumber, Gti, Gts, ImplodeString,
-    IntToString, Mkterm, Modi, Muli, Strcat, StringToInt, StripAnnos, Strlen, Subti,
+    Addi, Compare, Divi, EqIgnoreAnnos, ExplodeString, ExplodeTerm, GreatestNumber, Gti, Gts,
+    ImplodeString, IntToString, Mkterm, Modi, Muli, Strcat, StringToInt, StripAnnos, Strlen, Subti,
 };
 
 impl Operation for ExtendedOperation {
@@ -69,6 +71,7 @@ impl Operation for ExtendedOperation {
             ExplodeTerm => explode_term(alloc, arguments),
             Mkterm => mkterm(alloc, arguments),
             GreatestNumber => greatest_number(alloc, arguments),
+            Compare => compare(alloc, arguments),
         }
     }
 }
@@ -113,6 +116,7 @@ pub fn extended_primitives(alloc: Global) -> Result<Vec<Primitive<Extended>>, No
         2,
         GreatestNumber,
     )?;
+    add(alloc, &mut primitives, b"compare", 2, Compare)?;
     Ok(primitives)
 }
 

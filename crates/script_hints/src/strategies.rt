@@ -15,7 +15,7 @@ names newnames greatest-number fresh-number fresh-name renaming rename try-renam
 numbers add subt mul div mod inc dec gt lt geq leq max min is-int even int-to-string string-to-int
 terms get-arguments take-arguments crush collect-all collect-all-of-each collect collect-of-each
 terms subterms occurrences occurrences-in-each substitute preserve-annos eq-ignore-annos
-terms strip-annos is-string explode-term mkterm";
+terms strip-annos compare term-gt term-lt is-string explode-term mkterm";
 
 /// The module that defines a strategy of this name; nothing if none does.
 pub fn module_defining(name: &[u8]) -> &'static str {

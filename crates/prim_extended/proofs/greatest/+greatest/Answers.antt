@@ -2,7 +2,7 @@ use Rattle.std.proofs.Common.{◌+◌, ◌∙◌, ap, arith}
 use Rattle.term_core.specs.Tree.{of_list}
 use Rattle.term_core.proofs.TreeLemmas.{heights-take_more, heights-take}
 use Rattle.prim_extended.specs.Greatest.{greatest_of_all}
-use Rattle.prim_extended.proofs.AnnotationLemmas.{children_lower}
+use Rattle.term_order.proofs.HeightLemmas.{children_lower}
 use Rattle.prim_extended.proofs.GreatestLemmas.{of_children}
 use Rattle.prim_extended.proofs.greatest.+greatest.Goals as goal
 

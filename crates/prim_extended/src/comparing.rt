@@ -1,0 +1,29 @@
+//! The order on terms as a primitive.
+
+ghost use Rattle.std.specs.Prelude.{◌≡◌, length, IfOk, codes};
+ghost use Rattle.prim_extended.specs.Comparing.{sign};
+ghost use Rattle.prim_extended.specs.Extended.{extended};
+
+use std::alloc::Global;
+use std::cmp::Ordering;
+use term_core::{NoMemory, Term};
+
+/// `compare`: -1, 0 or 1 where the term a comes before the term b in the order on terms, is equal to
+/// it, or comes after it.
+pub fn compare(alloc: Global, arguments: &[Term]) -> Result<Option<Term>, NoMemory>
+    requires { length arguments.now ≡ 2 }
+    ensures { IfOk result (λ found. found ≡ extended (codes "compare") arguments.now) }
+{
+    let order = term_order::compare(&arguments[0], &arguments[1]);
+    Ok(Some(Term::integer(alloc, sign(order))))
+}
+
+fn sign(order: Ordering) -> i64
+    ensures { result ≡ sign order }
+{
+    match order {
+        Ordering::Less => -1,
+        Ordering::Equal => 0,
+        Ordering::Greater => 1,
+    }
+}

@@ -1,0 +1,2 @@
+pub mod HeightLemmas
+pub mod OrderLemmas

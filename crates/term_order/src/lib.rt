@@ -1,0 +1,7 @@
+//! A total order on terms.
+#![tactic(auto)]
+
+pub mod laws;
+pub mod order;
+
+pub use order::compare;
