@@ -41,6 +41,10 @@ _SORTS: Final = (
 ).split()
 
 
+# The lists in which an element may be absent: of `**x` in a dictionary there is no key.
+_LOOSE: Final = {("Dict", "keys"), ("arguments", "kw_defaults")}
+
+
 class Field(NamedTuple):
     """A field of a constructor: its name, the sort of what is in it, and `*` for a list, `?` for one that may be absent."""
 
@@ -86,20 +90,30 @@ def _constructors() -> dict[str, Constructor]:
 CONSTRUCTORS: Final = _constructors()
 
 
+def _sort_of(constructor: Constructor, field: Field) -> str:
+    """The sort of a field, as the signature has it."""
+    if field.number == "*":
+        return f"List(Option({field.sort}))" if (constructor.name, field.name) in _LOOSE else f"List({field.sort})"
+    return f"Option({field.sort})" if field.number else field.sort
+
+
 def signature() -> str:
     """Returns the module of strategies that declares the constructors."""
     lines = ["module python", "", "// Python's syntax trees. Written by `python -m stratbench.python` of the client for Python.", "// Needs: nothing.", ""]
-    lines += ["signature", "  sorts", "    " + " ".join(_SORTS), "    identifier string int constant List(stmt) Option(expr)", "  constructors"]
+    lines += ["signature", "  sorts", "    " + " ".join(_SORTS), "    identifier string int constant none List(stmt) Option(expr)", "  constructors"]
     for sort in _SORTS:
         for it in sorted(CONSTRUCTORS.values()):
             if it.sort == sort:
-                wrap = {"": "%s", "*": "List(%s)", "?": "Option(%s)"}
-                arguments = " * ".join(wrap[field.number] % field.sort for field in it.fields)
+                arguments = " * ".join(_sort_of(it, field) for field in it.fields)
                 names = ", ".join(field.name for field in it.fields)
                 lines.append(f"    {it.name} : {arguments + ' -> ' if arguments else ''}{sort}" + (f"  // {names}" if names else ""))
     lines.append("    // constants, and the field that is absent")
     lines += [f"    {name} : {'string -> ' * arity}constant" for name, arity in sorted(CONSTANTS.items())]
-    lines.append("    None : Option(expr)")
+    lines.append("    None : none")
+    lines.append("    // what is a constant or a name as it is, and what may be absent")
+    lines += [f"    : {it} -> constant" for it in ("int", "string", "none")] + ["    : string -> identifier"]
+    may_miss = {field.sort for it in CONSTRUCTORS.values() for field in it.fields if field.number == "?"}
+    lines += [f"    : {it} -> Option({sort})" for sort in sorted(may_miss) for it in (sort, "none")]
     return "\n".join(lines) + "\n"
 
 
