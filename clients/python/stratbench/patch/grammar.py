@@ -8,11 +8,17 @@
     <BLANKLINE>
     signature
       constructors
-        Return : tree -> statement  // argument
-        Call : tree * tree -> statement  // callee, arguments
+        Return : optional(tree) -> statement  // argument
+        Call : tree * list(tree) -> statement  // callee, arguments
         True : flag
         False : flag
-        Absent : tree
+        Absent : absent
+        : int -> text
+        : str -> text
+        : statement -> tree
+        : text -> tree
+        : tree -> optional(tree)
+        : absent -> optional(tree)
 
 A line is a constructor and its template. In a template
 
@@ -33,6 +39,7 @@ and these lines are about constructors of a kind:
     atoms NAME..                 constructors whose text is one word or literal, in which nothing is changed
     text NAME..                  atoms in which blanks mean something, also those around
     indented NAME..              atoms of which further lines are indented with the line in which they begin
+    holes NAME..                 constructors in whose lists an element may be absent
     apart NAME..                 constructors that have blank lines around them in lists over lines
     absent NAME                  what stands for a field that is absent, else Absent
     words NAME..                 further constructors that are no nodes
@@ -180,6 +187,7 @@ class Grammar:
         self.text: frozenset[str] = frozenset()
         self.indented: frozenset[str] = frozenset()
         self.apart: frozenset[str] = frozenset()
+        self.holes: frozenset[str] = frozenset()
         self.words: frozenset[str] = frozenset(["True", "False"])
         self.absent = "Absent"
         sort = ""
@@ -194,7 +202,7 @@ class Grammar:
                 of, opens, closes, *constructor = rest.split()
                 blank = " " * len(constructor)
                 self.brackets[of] = Brackets(f"{opens}{blank}".encode(), f"{blank}{closes}".encode(), constructor[0] if constructor else None)
-            elif name in ("atoms", "text", "indented", "apart", "words"):
+            elif name in ("atoms", "text", "indented", "apart", "holes", "words"):
                 setattr(self, name, getattr(self, name) | frozenset(rest.split()))
             elif name == "absent":
                 self.absent = rest
@@ -225,13 +233,30 @@ class Grammar:
                 raise NoTerm(f"no constructor of {len(term.children)} terms: {cut(term)}")
 
     def signature(self, module: str, said: Sequence[str] = ()) -> str:
-        """Returns the module of strategies that declares the constructors, with comments after its name."""
+        """Returns the module of strategies that declares the constructors, with comments after its name. What is no list, flag or text may
+        be any node, or a name: a grammar says no more of it."""
         lines = [f"module {module}", "", *(f"// {it}" for it in said), *([""] if said else []), "signature", "  constructors"]
         for it in self.constructors.values():
-            arguments = " * ".join(["tree"] * len(it.fields)) + (" -> " if it.fields else "")
+            arguments = " * ".join(self._sort_of(it, name) for name in it.fields) + (" -> " if it.fields else "")
             lines.append(f"    {it.name} : {arguments}{it.sort}" + (f"  // {', '.join(it.fields)}" if it.fields else ""))
-        others = [f"    {it} : flag" for it in ("True", "False")] + [f"    {self.absent} : tree"]
-        return "\n".join([*lines, *others]) + "\n"
+        sorts = dict.fromkeys(it.sort for it in self.constructors.values())
+        lines += [f"    {it} : flag" for it in ("True", "False")] + [f"    {self.absent} : absent"]
+        lines += [f"    : {it} -> text" for it in ("int", "str")] + [f"    : {it} -> tree" for it in (*sorts, "text")]
+        used = "".join(lines)
+        for sort in ("tree", "list(tree)", "text"):
+            if f"optional({sort})" in used:
+                lines += [f"    : {it} -> optional({sort})" for it in (sort, "absent")]
+        return "\n".join(lines) + "\n"
+
+    def _sort_of(self, constructor: Constructor, name: str) -> str:
+        """The sort of a field, as the signature has it."""
+        field = constructor.by_name[name]
+        if field.kind == "flag":
+            return "flag"
+        is_text = field.kind == "word" or constructor.name in self.atoms | self.text or constructor.parts == (field,) and not field.plain
+        element = "optional(tree)" if constructor.name in self.holes else "tree"
+        sort = f"list({element})" if field.kind == "list" else "text" if is_text else "tree"
+        return f"optional({sort})" if name in constructor.groups else sort
 
 
 def _constructor(name: str, sort: str, template: str) -> Constructor:
