@@ -2,12 +2,17 @@
 
 use crate::screen::{Form, Screen, Writer};
 use diagnostic::Report;
-use hint_text::{Ground, Numbered, Past, ScriptCommand, parts_of, parts_of_load};
+use hint_text::{CommandParts, Ground, Numbered, Past, ScriptCommand, parts_of, parts_of_load};
 use prim_core::Meaning;
 use run_hints::{explain_nothing, explain_run, profile_run, tree_of};
 use script_core::{Framing, Piece, Settings};
-use script_hints::{explain, warn, warn_of_end, warn_of_nothing};
+use script_hints::{
+    explain, part_before, signature_after, signature_of, warn, warn_of_end, warn_of_nothing,
+    warn_of_result,
+};
+use script_text::Keyword;
 use session_core::{MAX_BUDGET, Refusal, Session};
+use sort_hints::Signature;
 use std::alloc::Global;
 use term_core::{Label, NoMemory, Term};
 
@@ -45,6 +50,10 @@ pub struct Observer<'a> {
     past: Past,
     // The tree that the next command applies a strategy to, if its steps are wanted.
     before: Option<Term>,
+    // What the modules declare, if that was read since they changed.
+    signature: Option<Signature>,
+    // The subterm that the next command applies a strategy to, where something is declared.
+    part: Option<Term>,
 }
 
 impl<'a> Observer<'a> {
@@ -63,6 +72,8 @@ impl<'a> Observer<'a> {
             numbered: Numbered::new(alloc, settings.framing),
             past: Past::new(),
             before: None,
+            signature: None,
+            part: None,
         }
     }
 
@@ -72,11 +83,14 @@ impl<'a> Observer<'a> {
         self.numbered = Numbered::new(self.alloc, settings.framing);
         self.past = Past::new();
         self.before = None;
+        self.signature = None;
+        self.part = None;
     }
 
     /// The library was loaded.
     pub fn add_library(&mut self) {
         self.library = None;
+        self.signature = None;
     }
 
     /// What is said.
@@ -99,11 +113,57 @@ impl<'a> Observer<'a> {
     /// Sees a command before it is answered.
     pub fn expected<M: Meaning>(&mut self, session: &Session<M>, command: Piece<'_>) {
         self.before = None;
+        self.part = None;
+        let parts = parts_of(text_of(command));
+        let history = session.timeline();
         if self.wanted.profiles
-            && let Some(tree) = tree_of(self.alloc, session.timeline(), &parts_of(text_of(command)))
+            && let Some(tree) = tree_of(self.alloc, history, &parts)
             && let Ok(copy) = tree.try_clone()
         {
             self.before = Some(copy);
+        }
+        if self.wanted.explanations
+            && matches!(parts.command, Keyword::Apply)
+            && self.has_signature(session)
+            && let Ok(part) = part_before(self.alloc, history, &parts)
+        {
+            self.part = part;
+        }
+    }
+
+    // Reads what the modules declare, unless that is known. Returns whether anything is declared.
+    fn has_signature<M: Meaning>(&mut self, session: &Session<M>) -> bool {
+        if self.signature.is_none() {
+            self.see_modules(session);
+        }
+        match &self.signature {
+            Some(signature) => !signature.is_empty(),
+            None => false,
+        }
+    }
+
+    // Keeps what the modules declare up to date with a command that was accepted.
+    fn keep_signature<M: Meaning>(&mut self, session: &Session<M>, parts: &CommandParts<'_>) {
+        if parts.is_module() {
+            self.see_module(session, parts.name, parts.text);
+        } else if !keeps_modules(parts.command) {
+            self.signature = None;
+        }
+    }
+
+    // Keeps it up to date with a module that was loaded.
+    fn see_module<M: Meaning>(&mut self, session: &Session<M>, name: &[u8], text: &[u8]) {
+        let before = self.signature.take();
+        if self.wanted.explanations
+            && let Ok(signature) = signature_after(
+                self.alloc,
+                session.timeline(),
+                before,
+                name,
+                text,
+            )
+        {
+            self.signature = Some(signature);
         }
     }
 
@@ -114,11 +174,13 @@ impl<'a> Observer<'a> {
         command: Piece<'_>,
         screen: &mut S,
     ) {
+        self.keep_signature(session, &parts_of(text_of(command)));
         let here = self.script_command(command);
         let ground = ground_of(session);
         let mut writer = self.writer(screen);
         if self.wanted.explanations {
-            let _ = warn(self.alloc, &ground, &here, &mut writer);
+            let declared = self.signature.as_ref();
+            let _ = warn(self.alloc, &ground, &here, declared, &mut writer);
             if let Some(nothing) = warn_of_nothing(self.alloc, ground.history, &here)
                 && let Ok(nothing) = explain_nothing(
                     self.alloc,
@@ -129,6 +191,17 @@ impl<'a> Observer<'a> {
                 )
             {
                 writer.report(&nothing);
+            }
+            if let (Some(part), Some(signature)) = (&self.part, &self.signature)
+                && let Ok(Some(wrong)) = warn_of_result(
+                    self.alloc,
+                    ground.history,
+                    &here,
+                    signature,
+                    part,
+                )
+            {
+                writer.report(&wrong);
             }
         }
         if let Some(tree) = &self.before
@@ -167,6 +240,27 @@ impl<'a> Observer<'a> {
 
     /// Sees that a text was loaded, and says what may not be meant.
     pub fn loaded<M: Meaning, S: Screen>(
+        &mut self,
+        session: &Session<M>,
+        text: LoadedText<'_>,
+        screen: &mut S,
+    ) {
+        self.keep_signature(session, &parts_of_load(text.word, text.name, text.text));
+        self.loaded_together(session, text, screen);
+    }
+
+    /// Sees that several modules were loaded together.
+    pub fn see_modules<M: Meaning>(&mut self, session: &Session<M>) {
+        self.signature = None;
+        if self.wanted.explanations
+            && let Ok(signature) = signature_of(self.alloc, session.timeline(), &[])
+        {
+            self.signature = Some(signature);
+        }
+    }
+
+    /// Says what may not be meant in a text that was loaded together with others, which were all seen.
+    pub fn loaded_together<M: Meaning, S: Screen>(
         &self,
         session: &Session<M>,
         text: LoadedText<'_>,
@@ -174,8 +268,15 @@ impl<'a> Observer<'a> {
     ) {
         if self.wanted.explanations {
             let command = self.load_command(text);
+            let declared = self.signature.as_ref();
             let mut writer = self.writer(screen);
-            let _ = warn(self.alloc, &ground_of(session), &command, &mut writer);
+            let _ = warn(
+                self.alloc,
+                &ground_of(session),
+                &command,
+                declared,
+                &mut writer,
+            );
         }
     }
 
@@ -261,6 +362,14 @@ impl<'a> Observer<'a> {
             library: self.library,
         }
     }
+}
+
+// Whether the modules stay the same where a command is accepted.
+fn keeps_modules(command: Keyword) -> bool {
+    !matches!(
+        command,
+        Keyword::Module | Keyword::Unload | Keyword::Undo | Keyword::Redo | Keyword::Abandon
+    )
 }
 
 /// The name of the module with the first fault of the modules of a session as they are, also in a group.

@@ -8,6 +8,7 @@ mod later;
 mod limits;
 mod lines;
 mod names;
+mod sorts;
 mod strategies;
 mod stuck;
 mod texts;
@@ -17,4 +18,5 @@ mod warnings;
 
 pub use explainer::explain;
 pub use faults::faulty_module;
+pub use sorts::{part_before, signature_after, signature_of, warn_of_result};
 pub use warnings::{warn, warn_of_end, warn_of_nothing};

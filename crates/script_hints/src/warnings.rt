@@ -7,6 +7,7 @@ use hint_text::{Ground, Past, ScriptCommand, arity_of, declaring, known_modules,
 use prim_core::Meaning;
 use script_text::{Framing, Keyword as Command};
 use session_history::{ReadModule, Timeline};
+use sort_hints::Signature;
 use std::alloc::Global;
 use strategy_syntax::{Definition, Pattern, PatternForm, Place, Strategy, StrategyForm};
 use strategy_tokens::TokenPlace;
@@ -15,13 +16,15 @@ use term_core::{Name, NoMemory};
 // The most bytes of a term that is looked through.
 const LOOKED: usize = 16_384;
 
-/// Reports the oddities of a command that was accepted. The ground is the one after the command.
+/// Reports the oddities of a command that was accepted. The ground is the one after the command, and so
+/// is what the modules declare, if that is known.
 ///
 /// Errors: `NoMemory` if memory can't grow; what was found before that is reported.
 pub fn warn<M: Meaning, R: Report>(
     alloc: Global,
     ground: &Ground<'_, M>,
     command: &ScriptCommand<'_>,
+    signature: Option<&Signature>,
     report: &mut R,
 ) -> Result<(), NoMemory> {
     let parts = command.parts;
@@ -29,7 +32,7 @@ pub fn warn<M: Meaning, R: Report>(
         return Ok(());
     }
     let missing = missing_modules(alloc, ground)?;
-    warn_among(alloc, ground, command, &missing, report)
+    warn_among(alloc, ground, command, &missing, signature, report)
 }
 
 fn warn_among<M: Meaning, R: Report>(
@@ -37,6 +40,7 @@ fn warn_among<M: Meaning, R: Report>(
     ground: &Ground<'_, M>,
     command: &ScriptCommand<'_>,
     missing: &[ReadModule],
+    signature: Option<&Signature>,
     report: &mut R,
 ) -> Result<(), NoMemory> {
     let modules = known_modules(alloc, ground, missing, &command.parts)?;
@@ -44,13 +48,13 @@ fn warn_among<M: Meaning, R: Report>(
     let limits = ground.history.limits();
     let mut explainer = Explainer::new(alloc, hint, command, &modules, limits);
     if explainer.parts.is_module() {
-        explainer.warn_of_modules(report)
+        explainer.warn_of_modules(signature, report)
     } else {
         explainer.warn_of_constructors(report)
     }
 }
 
-fn warning(alloc: Global, word: &'static str, origin: Origin<'_>) -> Diagnostic {
+pub(crate) fn warning(alloc: Global, word: &'static str, origin: Origin<'_>) -> Diagnostic {
     Diagnostic::new(alloc, Severity::Warning, Code { number: 0, word }, origin)
 }
 
@@ -138,7 +142,11 @@ fn catches_all(definition: &Definition) -> bool {
 }
 
 impl Explainer<'_, '_> {
-    fn warn_of_modules<R: Report>(&mut self, report: &mut R) -> Result<(), NoMemory> {
+    fn warn_of_modules<R: Report>(
+        &mut self,
+        signature: Option<&Signature>,
+        report: &mut R,
+    ) -> Result<(), NoMemory> {
         if self.parts.text.is_empty() && self.command.framing == Framing::Lines {
             self.begin("empty");
             let name = Fill::Quoted(self.parts.name);
@@ -152,6 +160,9 @@ impl Explainer<'_, '_> {
                     self.warn_of_variables(definition, report)?;
                     let before = definitions.get(..number).unwrap_or(&[]);
                     self.warn_of_order(definition, before, report);
+                }
+                if let Some(signature) = signature {
+                    self.warn_of_sorts(signature, *module, report)?;
                 }
             }
         }

@@ -12,7 +12,6 @@ mod terms;
 
 pub use check::{Found, SortFault, sort_faults};
 pub use known::Known;
-pub use reading::read_signature;
 pub use signature::{Declared, Signature};
 pub use sorts::{EmptySort, Parts, Sort, Sorts};
 pub use terms::{TermFault, new_fault};

@@ -12,22 +12,25 @@ const MOST: usize = 2_000;
 // The word without which a text declares nothing.
 const SECTION: &[u8] = b"constructors";
 
-/// What the texts of modules declare together. It is nothing where they have more than 2,000 sorts, or
-/// one is written with more than twenty brackets.
-///
-/// Errors: `NoMemory` if memory can't grow.
-pub fn read_signature(alloc: Global, texts: &[&[u8]]) -> Result<Signature, NoMemory> {
-    let mut signature = Signature::new(alloc)?;
-    for (number, text) in texts.iter().enumerate() {
-        if !read_text(alloc, &mut signature, number, text)? || signature.sorts.len() > MOST {
-            return Signature::new(alloc);
+impl Signature {
+    /// Adds what the text of a module of this name declares. The sorts have to be closed after it. Where
+    /// the modules have more than 2,000 sorts, or one is written with more than twenty brackets, nothing
+    /// is known from then on.
+    ///
+    /// Errors: `NoMemory` if memory can't grow.
+    pub fn read(&mut self, alloc: Global, name: &[u8], text: &[u8]) -> Result<(), NoMemory> {
+        let number = self.add_module(name)?;
+        if self.is_given_up() {
+            return Ok(());
         }
+        if !read_text(alloc, self, number, text)? || self.sorts.len() > MOST {
+            self.give_up();
+        }
+        Ok(())
     }
-    signature.sorts.close()?;
-    Ok(signature)
 }
 
-// Adds what the text of this number declares. Returns whether all was read.
+// Adds what the text of the module of this number declares. Returns whether all was read.
 fn read_text(
     alloc: Global,
     signature: &mut Signature,
@@ -44,7 +47,7 @@ fn read_text(
     };
     let mut reader = Reader {
         alloc,
-        text: number,
+        module: number,
         count: tokens.len(),
         rest: tokens.as_slice(),
     };
@@ -64,11 +67,11 @@ fn has_section(text: &[u8]) -> bool {
     false
 }
 
-// The tokens that are yet to be read, those of the text of this number, which has so many.
+// The tokens that are yet to be read, those of the module of this number, which has so many.
 #[derive(Clone, Copy)]
 struct Reader<'t> {
     alloc: Global,
-    text: usize,
+    module: usize,
     count: usize,
     rest: &'t [Token],
 }
@@ -164,7 +167,7 @@ impl Reader<'_> {
             }
         }
         let sort = signature.sorts.numbered(name.bytes(), arguments)?;
-        signature.sorts.mention(sort, self.text, token);
+        signature.sorts.mention(sort, self.module, token);
         Ok(Some(sort))
     }
 

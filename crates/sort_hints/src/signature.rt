@@ -1,6 +1,6 @@
 //! What the signatures of all modules declare.
 
-use crate::sorts::{Sort, Sorts};
+use crate::sorts::{EmptySort, Sort, Sorts};
 use std::alloc::Global;
 use std::cmp::Ordering;
 use term_core::{Name, NoMemory};
@@ -24,12 +24,16 @@ impl Declared {
     }
 }
 
-/// The declarations of all modules.
+/// The declarations of modules.
 #[derive(Drop)]
 pub struct Signature {
     pub sorts: Sorts,
     // In the order of their names and numbers of arguments, each once.
     constructors: Vec<Declared>,
+    // The modules that were read, in the order in which they were.
+    modules: Vec<Vec<u8>>,
+    // Whether too much was declared, so that nothing is known.
+    is_given_up: bool,
 }
 
 impl Signature {
@@ -40,7 +44,46 @@ impl Signature {
         Ok(Signature {
             sorts: Sorts::new(alloc)?,
             constructors: Vec::new(alloc),
+            modules: Vec::new(alloc),
+            is_given_up: false,
         })
+    }
+
+    /// Whether the module of this name was read.
+    pub fn has_module(&self, name: &[u8]) -> bool {
+        self.modules.iter().any(|it| it.as_slice() == name)
+    }
+
+    /// Notes that the module of this name is read now. Returns its number.
+    ///
+    /// Errors: `NoMemory` if memory can't grow.
+    pub fn add_module(&mut self, name: &[u8]) -> Result<usize, NoMemory> {
+        let number = self.modules.len();
+        let alloc = *self.modules.allocator();
+        self.modules.push(Vec::from_slice(alloc, name)?)?;
+        Ok(number)
+    }
+
+    /// Notes that too much was declared. From now on nothing is known.
+    pub fn give_up(&mut self) {
+        self.is_given_up = true;
+    }
+
+    /// Whether too much was declared.
+    pub fn is_given_up(&self) -> bool {
+        self.is_given_up
+    }
+
+    /// The sorts without terms that no module before this one names.
+    ///
+    /// Errors: `NoMemory` if memory can't grow.
+    pub fn empty_sorts(&self, module: &[u8]) -> Result<Vec<EmptySort>, NoMemory> {
+        let alloc = *self.modules.allocator();
+        let named = self.modules.iter().position(|it| it.as_slice() == module);
+        match named {
+            Some(number) if !self.is_given_up => self.sorts.empty_ones(alloc, number),
+            _ => Ok(Vec::new(alloc)),
+        }
     }
 
     /// Adds a declaration of a constructor.
@@ -77,15 +120,15 @@ impl Signature {
         }
     }
 
-    /// Whether no constructor is declared.
+    /// Whether no constructor is known.
     pub fn is_empty(&self) -> bool {
-        self.constructors.is_empty()
+        self.is_given_up || self.constructors.is_empty()
     }
 
     /// The constructor of this name with so many arguments; none where it isn't declared, or its
     /// declarations don't agree.
     pub fn constructor(&self, name: &Name, arity: usize) -> Option<&Declared> {
-        if name.is_quoted() {
+        if self.is_given_up || name.is_quoted() {
             return None;
         }
         let found = self.search(name.bytes(), arity).ok()?;

@@ -17,17 +17,17 @@ struct SortForm {
     injected: Vec<Sort>,
     // Whether a constructor is declared that gives one.
     is_built: bool,
-    // Once all declarations were read: the sort, and those that injections lead from to it.
+    // When the declarations were closed last: the sort, and those that injections lead from to it.
     taken: Vec<Sort>,
     // Whether there is no term of one of those.
     is_open: bool,
     first: Option<Mention>,
 }
 
-// Where a sort is named: in the text of this number, by the token of this number.
+// Where a sort is named: in the module of this number, by the token of this number.
 #[derive(Clone, Copy)]
 struct Mention {
-    text: usize,
+    module: usize,
     token: usize,
 }
 
@@ -129,12 +129,12 @@ impl Sorts {
         Ok(Sort { number })
     }
 
-    /// Notes that the token of this number of the text of this number names a sort.
-    pub fn mention(&mut self, sort: Sort, text: usize, token: usize) {
+    /// Notes that the token of this number of the module of this number names a sort.
+    pub fn mention(&mut self, sort: Sort, module: usize, token: usize) {
         if let Some(form) = self.forms.get_mut(sort.number)
             && form.first.is_none()
         {
-            form.first = Some(Mention { text, token });
+            form.first = Some(Mention { module, token });
         }
     }
 
@@ -155,12 +155,19 @@ impl Sorts {
         }
     }
 
-    /// Finds what each sort takes, once all declarations were noted.
+    /// Finds what each sort takes by the declarations that were noted so far.
     ///
     /// Errors: `NoMemory` if memory can't grow.
     pub fn close(&mut self) -> Result<(), NoMemory> {
+        let mut marks = Vec::new(*self.forms.allocator());
+        let none = Sort {
+            number: self.forms.len(),
+        };
+        for _ in 0..self.forms.len() {
+            marks.push(none)?;
+        }
         for number in 0..self.forms.len() {
-            let taken = self.reached(Sort { number })?;
+            let taken = self.reached(Sort { number }, &mut marks)?;
             let is_open = taken.iter().any(|it| self.is_empty(*it));
             if let Some(form) = self.forms.get_mut(number) {
                 form.taken = taken;
@@ -170,39 +177,41 @@ impl Sorts {
         Ok(())
     }
 
-    // The sort, and those from which injections lead to it. Cycles do no harm: each is met once.
-    fn reached(&self, sort: Sort) -> Result<Vec<Sort>, NoMemory> {
-        let alloc = *self.forms.allocator();
-        let mut reached = Vec::new(alloc);
-        let mut is_reached = Vec::new(alloc);
-        for number in 0..self.forms.len() {
-            is_reached.push(number == sort.number)?;
+    // The sort, and those from which injections lead to it. Each gets a mark with this sort, so that it
+    // is met once; cycles do no harm.
+    fn reached(&self, sort: Sort, marks: &mut [Sort]) -> Result<Vec<Sort>, NoMemory> {
+        let mut reached = Vec::new(*self.forms.allocator());
+        if let Some(mark) = marks.get_mut(sort.number) {
+            *mark = sort;
         }
         reached.push(sort)?;
         for next in 0..self.forms.len() {
             let Some(last) = reached.get(next) else {
                 break;
             };
-            self.add_injected(*last, &mut reached, &mut is_reached)?;
+            let last = *last;
+            self.add_injected(last, sort, &mut reached, marks)?;
         }
-        drop(is_reached);
         Ok(reached)
     }
 
+    // Adds the sorts that are injected into this one by one declaration and that have no mark with the
+    // wanted one yet.
     fn add_injected(
         &self,
         sort: Sort,
+        wanted: Sort,
         reached: &mut Vec<Sort>,
-        is_reached: &mut Vec<bool>,
+        marks: &mut [Sort],
     ) -> Result<(), NoMemory> {
         let Some(form) = self.forms.get(sort.number) else {
             return Ok(());
         };
         for injected in &form.injected {
-            if let Some(mark) = is_reached.get_mut(injected.number)
-                && !*mark
+            if let Some(mark) = marks.get_mut(injected.number)
+                && *mark != wanted
             {
-                *mark = true;
+                *mark = wanted;
                 reached.push(*injected)?;
             }
         }
@@ -220,15 +229,15 @@ impl Sorts {
         }
     }
 
-    /// The sorts without terms that the text of this number names first.
+    /// The sorts without terms that the module of this number names first.
     ///
     /// Errors: `NoMemory` if memory can't grow.
-    pub fn empty_ones(&self, alloc: Global, text: usize) -> Result<Vec<EmptySort>, NoMemory> {
+    pub fn empty_ones(&self, alloc: Global, module: usize) -> Result<Vec<EmptySort>, NoMemory> {
         let mut found = Vec::new(alloc);
         for (number, form) in self.forms.iter().enumerate() {
             let sort = Sort { number };
             if let Some(first) = form.first
-                && first.text == text
+                && first.module == module
                 && self.is_empty(sort)
             {
                 found.push(EmptySort {

@@ -10,15 +10,15 @@ use term_core::{Kind, NoMemory, Term};
 // How deep terms are followed. Those of a session are no higher.
 const DEEPEST: usize = 1_001;
 
-/// A subterm of a tree, by its path, that isn't of the sort that its place wants.
+/// A subterm of a term, by its path, that isn't of the sort that its place wants.
 #[derive(Drop)]
 pub struct TermFault {
     pub path: Vec<usize>,
     pub wanted: Sort,
 }
 
-/// The first subterm that a change of a tree put at a place that wants another sort; none where what was
-/// there before was no better. Annotations aren't looked at.
+/// The first subterm that a change of a term, of which this is known, put at a place that wants another
+/// sort; none where what was there before was no better. Annotations aren't looked at.
 ///
 /// Errors: `NoMemory` if memory can't grow.
 pub fn new_fault(
@@ -26,12 +26,13 @@ pub fn new_fault(
     signature: &Signature,
     old: &Term,
     new: &Term,
+    known: Known,
 ) -> Result<Option<TermFault>, NoMemory> {
     let mut walk = Walk {
         signature,
         path: Vec::new(alloc),
     };
-    let Some(wanted) = walk.changed(old, new, Known::Any, DEEPEST)? else {
+    let Some(wanted) = walk.changed(old, new, known, DEEPEST)? else {
         return Ok(None);
     };
     let mut path = Vec::new(alloc);
@@ -110,6 +111,20 @@ impl Walk<'_> {
 }
 
 impl Signature {
+    /// What is known of the subterm that a path leads to.
+    pub fn known_at(&self, term: &Term, path: &[usize]) -> Known {
+        let mut known = Known::Any;
+        let mut here = term;
+        for index in path {
+            let Some(child) = here.child(*index) else {
+                return Known::Any;
+            };
+            known = self.child_of(known, here, *index);
+            here = child;
+        }
+        known
+    }
+
     // Whether a term of the sort may have the root of this one.
     fn has_root_of(&self, sort: Sort, term: &Term) -> bool {
         let sorts = &self.sorts;

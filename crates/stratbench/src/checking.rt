@@ -57,7 +57,7 @@ pub fn check_modules<M: Meaning>(
     rt: &HostRuntime,
     session: &mut Session<M>,
     line: &CommandLine<'_>,
-    observer: &Observer<'_>,
+    observer: &mut Observer<'_>,
 ) -> u8 {
     match read_modules(rt, line) {
         Ok(texts) => check_texts(rt, session, &texts, observer),
@@ -160,7 +160,7 @@ fn check_texts<M: Meaning>(
     rt: &HostRuntime,
     session: &mut Session<M>,
     texts: &[LookedAt],
-    observer: &Observer<'_>,
+    observer: &mut Observer<'_>,
 ) -> u8 {
     let mut screen = Shown {
         stream: rt.stderr(),
@@ -179,8 +179,9 @@ fn check_texts<M: Meaning>(
     }
     match session.commit() {
         Ok(()) => {
+            observer.see_modules(session);
             for text in texts {
-                observer.loaded(session, text.as_loaded(), &mut screen);
+                observer.loaded_together(session, text.as_loaded(), &mut screen);
             }
             0
         }

@@ -173,7 +173,7 @@ fn run_whole<M: Meaning>(rt: &HostRuntime, line: &CommandLine<'_>, session: &mut
         return report(rt, Err(RunFault::Memory));
     }
     if line.check {
-        return check_modules(rt, session, line, &observer(rt, line));
+        return check_modules(rt, session, line, &mut observer(rt, line));
     }
     if let Err(status) = load_all(rt, session, line) {
         return status;
@@ -299,7 +299,7 @@ fn load_tree<M: Meaning>(
     match read_file(rt, load.file(), limit_of(line.max_terms)) {
         Ok(text) => {
             load_one(rt, session, load, &text, line)?;
-            warn_of_load(rt, session, line, load, &text);
+            warn_of_load(rt, session, line, &observer(rt, line), load, &text);
             Ok(())
         }
         Err(fault) => Err(report_file(rt, load.file(), &fault)),
@@ -329,8 +329,10 @@ fn warn_of_modules<M: Meaning>(
     line: &CommandLine<'_>,
     modules: &[Loaded<'_, '_>],
 ) {
+    let mut observer = observer(rt, line);
+    observer.see_modules(session);
     for module in modules {
-        warn_of_load(rt, session, line, module.load, &module.text);
+        warn_of_load(rt, session, line, &observer, module.load, &module.text);
     }
 }
 
@@ -339,11 +341,12 @@ fn warn_of_load<M: Meaning>(
     rt: &HostRuntime,
     session: &Session<M>,
     line: &CommandLine<'_>,
+    observer: &Observer<'_>,
     load: &Load<'_>,
     text: &[u8],
 ) {
     if let Ok(file) = shown_name(rt.alloc(), line, load.file()) {
-        warn_of_text(rt, session, line, load, &file, text);
+        warn_of_text(rt, session, observer, load, &file, text);
     }
 }
 
@@ -351,7 +354,7 @@ fn warn_of_load<M: Meaning>(
 fn warn_of_text<'x, M: Meaning>(
     rt: &HostRuntime,
     session: &Session<M>,
-    line: &CommandLine<'_>,
+    observer: &Observer<'_>,
     load: &'x Load<'_>,
     file: &'x str,
     text: &'x [u8],
@@ -359,7 +362,7 @@ fn warn_of_text<'x, M: Meaning>(
     let mut screen = Shown {
         stream: rt.stderr(),
     };
-    observer(rt, line).loaded(session, loaded_text(load, file, text), &mut screen);
+    observer.loaded_together(session, loaded_text(load, file, text), &mut screen);
 }
 
 // Prints why the text of a file is refused. Returns the exit status.
