@@ -27,15 +27,16 @@ from __future__ import annotations
 import contextlib
 import re
 import time
-from collections.abc import Iterator, Sequence
+from collections.abc import Collection, Iterator, Sequence
 from types import TracebackType
 from typing import Final, NamedTuple, Union
 
 from . import installed, versions
-from .diagnostics import Diagnostic, Told, others, parsed, told
+from .diagnostics import Diagnostic, Label, Telling, Told, others, parsed, told
 from .embedded import Embedded, Stopped as Stopped
 from .parts import Step, TooLong, Unbalanced, in_parts
 from .places import Command, Text
+from .private import Hidden, Names
 from .process import Process
 from .terms import NoTerm, Term, read, write
 
@@ -172,6 +173,7 @@ class Stratbench:
         self.warnings: list[Told] = []
         self._line = 1
         self._grouped = False
+        self._names = Names()
         self._process: Process | Embedded
         if embedded:
             if options or seconds is not None:
@@ -272,9 +274,31 @@ class Stratbench:
         """Takes a tree away."""
         self._answer(f"drop {name}")
 
-    def module(self, name: str, text: str) -> None:
-        """Gives the name a module of strategies."""
-        self._answer(f"module {name} ", Text(text))
+    def module(self, name: str, text: str, public: Collection[str] | None = None) -> None:
+        """Gives the name a module of strategies. Where `public` has names, definitions of these are seen by other modules and in strategies
+        that are applied; all others are the module's own, and other modules may have some of the same names. `text` and `dump` have them
+        as they are sent, with the module's name after an apostrophe.
+
+        >>> bench = Stratbench()
+        >>> bench.module("one", "strategies\\n  f = step\\n  step = ?1; !2", public=["f"])
+        >>> bench.module("two", "strategies\\n  g = step; step\\n  step = ?2; !3", public=["g"])
+        >>> bench.tree("t", "1")
+        >>> bench.apply("t", "f")
+        >>> try:
+        ...     bench.apply("t", "g")
+        ... except Refused as refused:
+        ...     print(refused.explanation.splitlines()[1].strip())
+        `?2` fails on `3`, made at `/`, in `step` of the module `two`, line 3 of its text
+        >>> bench.text("two")
+        "strategies\\n  g = step'two; step'two\\n  step'two = ?2; !3"
+        """
+        if public is None:
+            self._answer(f"module {name} ", Text(text))
+            return
+        hidden = Hidden(name, text, public)
+        # undo may bring it back, so it stays known
+        self._names.add(hidden)
+        self._answer(f"module {name} ", hidden)
 
     def unload(self, name: str) -> None:
         """Takes a module away."""
@@ -495,13 +519,28 @@ class Stratbench:
             if isinstance(error, TimeoutError):
                 raise TimeoutError(f"no answer after {self.seconds} seconds") from None
             raise
-        said = parsed(self._process.said())
+        said = [self._names.of(it) for it in parsed(self._process.said())]
         if lines[0].startswith("refused "):
             found = next((it for it in said if it.line == command.line and it.severity == "refusal"), None)
-            raise Refused(lines[0], *(command.explained(found) if found else ("", None)), found)
-        self.warnings = [_warning(command, it) for it in said]
+            raise Refused(lines[0], *(command.explained(found, others=self._elsewhere) if found else ("", None)), found)
+        self.warnings = [_warning(command, it, self._elsewhere) for it in said]
         self._grouped = word == "begin" or self._grouped and word not in ("commit", "abandon")
         return lines
+
+    # Says where a place is in the caller's text of another module, if definitions of that are hidden.
+    def _elsewhere(self, label: Label) -> str | None:
+        if label.module is None or label.line is None or label.column is None or not self._names:
+            return None
+        text = None
+        # with the option --stop the program has ended
+        with contextlib.suppress(Ended):
+            text = self._names.text(label.module, self.text(label.module))
+        if text is None:
+            return None
+        line, column = text.own_place(label.line, label.column)
+        # a sentence may say the line alone
+        is_line = label.said[1] - label.said[0] == len(f"line {label.line}")
+        return f"line {line}" if is_line else f"line {line}, column {column}"
 
     def _lines(self, word: str, command: str) -> list[str]:
         # the answers to these have any number of lines, and that to `history` begins with `undo `, as none of theirs does
@@ -527,8 +566,8 @@ def _plain(said: str) -> str:
 
 
 # A warning on a command.
-def _warning(command: Command, it: Diagnostic) -> Told:
-    text, place = command.explained(it)
+def _warning(command: Command, it: Diagnostic, others: Telling) -> Told:
+    text, place = command.explained(it, others=others)
     warning = Told(text)
     warning.place = place
     return warning

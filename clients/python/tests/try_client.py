@@ -38,6 +38,19 @@ REFUSED = [
 ]  # fmt: skip
 
 
+# Calls where modules keep definitions to themselves, and what the refusal says, with the place.
+HIDDEN = [
+    ("apply", ("t", "half"), "at line 1, column 1\n    half\n    ^", (1, 1)),
+    ("apply", ("t", "twice"), "it was applied to the constant `a`\n    `?A()` fails on `a` at `/`, in `half` of the module `one`, line 3 of its text\n"
+        "    `A()` takes the constant `A`\n    called by, innermost first: `half` (line 3), `twice` (line 2), the command", None),
+    ("module", ("more", "strategies\n  g = half\n  h = twice", ["g"]), "in `g` of the module `more`, line 2, column 7\n      g = half\n          ^", (2, 7)),
+    ("module", ("more", "strategies\n  g = g; h; k\n  h = id", []), "in `g` of the module `more`, line 2, column 13\n      g = g; h; k\n                ^", (2, 13)),
+    ("module", ("more", "strategies\n  g = g; g )", []), "module more: no module goes on with `)` at line 2, column 12\n      g = g; g )\n               ^", (2, 12)),
+    ("unload", ("base",), "in `half` of the module `one`, line 3, column 11 of its text\n      half = ?A()\n              ^\n"
+        "    also unknown s 0 0, in `half` of the module `two`, line 3, column 20 of its text", None),
+]  # fmt: skip
+
+
 # Scripts and modules as `stratbench.problems` is given them, with options, and the lines that it prints, less those that are indented.
 PROBLEMS = [
     ("script", [], "tree t a\napply t do id; revers\n", ["script:2:16: error: refused 11 unknown revers 0 0: at line 2, column 16"]),
@@ -95,6 +108,25 @@ def explained():
     script = "from stratbench import *\nwith Stratbench() as b:\n  try: b.show('t')\n  except Refused: pass\n"
     ran = subprocess.run([sys.executable, "-c", script], env={**os.environ, "PYTHONPATH": sys.path[0]}, capture_output=True)
     yield "a refusal prints nothing", "" if ran.returncode == 0 and not ran.stdout + ran.stderr else f"{ran}"
+
+
+def hidden():
+    with Stratbench() as bench:
+        bench.tree("t", "a")
+        bench.module("base", "signature constructors A : t  strategies s = id")
+        bench.module("one", "strategies\n  twice = half; half\n  half = ?A()", ["twice"])
+        bench.module("two", "strategies\n  half(s) = half; s\n  half = half(id); s", [])
+        for method, given, wanted, place in HIDDEN:
+            try:
+                getattr(bench, method)(*given)
+                yield f"hidden: {method} of {given!r:.50}", "it wasn't refused"
+            except Refused as refused:
+                fault = "" if wanted == refused.explanation and refused.place == place else f"{refused!s}\n{refused.place}"
+                yield f"hidden: {method} of {given!r:.50}", fault
+        bench.undo(2)
+        bench.module("one", "strategies half = !2  other = half", ["half"])
+        bench.apply("t", "half")
+        yield "hidden no longer", "" if bench.show("t") == "2" else bench.show("t")
 
 
 def tree_of(depth, wide):
@@ -294,6 +326,7 @@ def tests(top, everything):
         found = doctest.testmod(importlib.import_module(f"stratbench.{name}"))
         yield f"the examples of {name}", "" if found.attempted and not found.failed else f"{found}"
     yield from explained()
+    yield from hidden()
     yield from problems()
     yield from all_parts()
     yield from long_texts()
