@@ -1,4 +1,4 @@
-"""Makes the library for C, which `embed` tries and from which `wasm` makes the module for browsers.
+"""Compiles the library for C, of which `embed` makes what others link, and `wasm` the module for browsers.
 
 `rt ci` proves the library, and keeps no compiled one. There are two ways to make it. `rt lib` proves it and all crates below once more, and
 compiles what it proved: that is the library to hand out. `rt try` compiles the same sources in a minute, and proves nothing, so that
@@ -16,7 +16,7 @@ import tempfile
 import time
 from typing import NamedTuple
 
-from workbench import TOP
+from checkout import TOP, contents
 
 CRATE = f"{TOP}/crates/stratbench_c"
 HEADER = f"{TOP}/clients/c/stratbench.h"
@@ -55,11 +55,6 @@ class Library(NamedTuple):
 
 
 PROVED, TRIED = Library(f"{CRATE}/out", True), Library(f"{TOP}/clients/c/build", False)
-
-
-def contents(file):
-    with open(file, "rb") as it:
-        return it.read()
 
 
 def declared():

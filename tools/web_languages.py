@@ -5,9 +5,7 @@ import os
 import re
 import sys
 
-from c_library import contents
-from embedding import installed
-from workbench import TOP
+from checkout import TOP, contents, installed
 
 sys.path.insert(0, f"{TOP}/clients/python")
 from stratbench import languages  # noqa: E402

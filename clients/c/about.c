@@ -1,5 +1,5 @@
 /* What the library says of itself. Nothing proves this file: it has texts, and compares numbers. It includes nothing, since Rattle's kit,
- * which compiles it, has no headers of C; the version is that of stratbench.h, and tools/embed sees that the types are. */
+ * which compiles it, has no headers of C; the version is that of stratbench.h, and trials/embed sees that the types are. */
 
 const char *stratbench_version(void) { return STRATBENCH_VERSION; }
 

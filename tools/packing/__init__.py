@@ -1,1 +1,1 @@
-"""What `tools/package` makes, and how each is tried."""
+"""What `tools/package` makes."""

@@ -4,8 +4,8 @@ import json
 import re
 import subprocess
 
+from checkout import TOP
 from packing.parts import Failed, as_json, checksum, text_of
-from workbench import TOP
 
 NAME = "stratbench"
 LICENCE = {"expression": "MIT OR Apache-2.0"}

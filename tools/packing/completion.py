@@ -3,8 +3,8 @@
 import re
 from typing import NamedTuple
 
+from checkout import TOP
 from packing.parts import text_of
-from workbench import TOP
 
 TABLE = f"{TOP}/crates/command_line/src/words.rt"
 # An option that takes NAME=FILE may be given again.

@@ -6,8 +6,8 @@ with the first column as what is described, since few terminals have room for it
 
 import re
 
+from checkout import TOP
 from packing.parts import text_of
-from workbench import TOP
 
 # The pages of the program and of the library for C: what each is called, its section, and what it is in a line.
 PAGES = {

@@ -3,17 +3,16 @@
 import json
 import os
 
-from embedding import tool
+from checkout import TOP, as_module
 from packing.completion import options
 from packing.parts import Failed, File, Missing, as_json, contents, licences, stamp, tarred, text_of
-from workbench import TOP
 
 CLIENT = f"{TOP}/clients/node"
 
 
 def engine():
     """Builds the module for browsers, where it isn't there already. Returns its name."""
-    wasm = tool("wasm")
+    wasm = as_module("tools/wasm")
     lacks = wasm.missing()
     if lacks:
         raise Missing(f"the module for browsers can't be made, since there is no {lacks}")

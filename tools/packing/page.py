@@ -2,7 +2,7 @@
 
 import os
 
-from embedding import tool
+from checkout import as_module
 from packing.node import engine
 from packing.parts import Failed, contents
 
@@ -12,7 +12,7 @@ FOLDER = "page"
 def make(parts):
     """Returns the files of the page, by their names."""
     engine()
-    web = tool("web")
+    web = as_module("tools/web")
     if not web.build(None, False):
         raise Failed("the page can't be made")
     names = sorted(it for it in os.listdir(web.BUILD) if not it.endswith(".stamp"))

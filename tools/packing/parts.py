@@ -16,7 +16,7 @@ import tempfile
 from typing import NamedTuple
 
 from c_library import library, version
-from workbench import PROGRAM, TOP, UNPROVED
+from checkout import PROGRAM, TOP, UNPROVED, contents
 
 LICENCES = ["LICENSE-MIT", "LICENSE-APACHE"]
 
@@ -54,11 +54,6 @@ class Parts(NamedTuple):
     def about(self):
         """The text of `build.json`, which every package has."""
         return as_json(self.build)
-
-
-def contents(path):
-    with open(path, "rb") as it:
-        return it.read()
 
 
 def text_of(path):

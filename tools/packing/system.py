@@ -8,10 +8,10 @@ import tempfile
 import time
 
 from c_library import HEADER, SONAME
+from checkout import TOP
 from packing import completion, man
 from packing.parts import Failed, File, Missing, compressed, contents, in_a_folder, licences, statement, tarred, text_of
 from packing.wheel import least_libc
-from workbench import TOP
 
 ARCHITECTURE = "amd64"
 TRIPLE = "x86_64-linux-gnu"

@@ -8,8 +8,8 @@ import re
 import time
 import zipfile
 
+from checkout import TOP
 from packing.parts import LICENCES, contents
-from workbench import TOP
 
 CLIENT = f"{TOP}/clients/python"
 # The commands, and the functions that they call.

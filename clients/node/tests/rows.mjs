@@ -1,4 +1,4 @@
-// Runs rows by the command line of the package, for tools/package: `node rows.mjs FOLDER`, the folder of the package. Standard input has a row a
+// Runs rows by the command line of the package, for trials/package: `node rows.mjs FOLDER`, the folder of the package. Standard input has a row a
 // line, as `{words, script, files}` in JSON, with bytes in base64; standard output what came out, `{out, said, status}`.
 
 import { readFileSync } from 'node:fs';

@@ -1,4 +1,4 @@
-// What is said of a module of another version, for tools/package: `node versions.mjs FOLDER`, the folder of the package. A line for each
+// What is said of a module of another version, for trials/package: `node versions.mjs FOLDER`, the folder of the package. A line for each
 // trial that fails, and status 1 then.
 
 import { pathToFileURL } from 'node:url';

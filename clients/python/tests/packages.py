@@ -28,7 +28,14 @@ def interpreter(module, package):
 
 
 def installed(*names):
-    """What kept packages of Debian from being installed, or nothing."""
+    """What kept packages of Debian from being installed, or nothing. It is printed, too, for who runs the trials."""
+    why = _installed(*names)
+    if why:
+        print(f"lacks Debian's {', '.join(names)}: {why.strip().splitlines()[-1]}", flush=True)
+    return why
+
+
+def _installed(*names):
     if os.geteuid() != 0 or shutil.which("apt-get") is None:
         return "only root installs it, by apt-get"
     # others who ask for packages here wait for one another

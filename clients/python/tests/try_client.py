@@ -321,7 +321,7 @@ def stops():
 
 
 def tests(top, everything):
-    # those of the other modules are run by tools/examples
+    # those of the other modules are run by trials/examples
     for name in ("places", "parts", "strategies", "refactor.needs", "refactor.previewed", "refactor.report", "refactor.writing", "shell.completion", "shell.lines", "shell.syntax", "shell.view", "versions"):
         found = doctest.testmod(importlib.import_module(f"stratbench.{name}"))
         yield f"the examples of {name}", "" if found.attempted and not found.failed else f"{found}"

@@ -1,5 +1,5 @@
 """The client with a session in its own process, over the shared object that the environment's STRATBENCH_LIBRARY names: the examples of
-its documentation, what refusals say, long texts, and how sessions end. `tools/embed` runs it, since it makes that object."""
+its documentation, what refusals say, long texts, and how sessions end. `trials/embed` runs it, since it makes that object."""
 
 import doctest
 import functools

@@ -1,4 +1,4 @@
-// Runs scripts by the module, each in a session of its own, for tools/wasm: `node answers.mjs MODULE`. Standard input has a script a
+// Runs scripts by the module, each in a session of its own, for trials/wasm: `node answers.mjs MODULE`. Standard input has a script a
 // line, as `{script, library, lines, loads}` in JSON, with bytes in base64; standard output what came out, `{answers, said, status}`.
 
 import { readFileSync } from 'node:fs';

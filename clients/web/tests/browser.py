@@ -1,4 +1,4 @@
-"""Tries the page in headless Chromium, for tools/web: browser.py ADDRESS --folder FOLDER [--program PROGRAM] [--shots FOLDER].
+"""Tries the page in headless Chromium, for trials/web: browser.py ADDRESS --folder FOLDER [--program PROGRAM] [--shots FOLDER].
 
 FOLDER has the page, which one trial serves itself. With `--pictures FOLDER` the pictures of the manual are made, and nothing is tried.
 

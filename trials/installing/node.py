@@ -9,9 +9,9 @@ import subprocess
 import tarfile
 from concurrent.futures import ThreadPoolExecutor
 
-from embedding import OPEN_GROUP
+from deepest import OPEN_GROUP
+from installing.shared import SECONDS, got, needs, put, session_of_readme, tried, version_of, want, want_in
 from packing.parts import Failed, contents
-from packing.trials import SECONDS, got, needs, put, session_of_readme, tried, version_of, want, want_in
 from workbench import TOP, files_of_rows, rows_of
 
 # The options of rows that the package has. A line that is wrong is said in other words, and a refused budget too.
@@ -59,7 +59,7 @@ def coded(text):
 
 
 def runs_of(row):
-    """How a row is run, as tools/rows does: the words before its options, and what is said then."""
+    """How a row is run, as trials/rows does: the words before its options, and what is said then."""
     yield [], row.said or b""
     if row.explained is not None:
         yield ["--explain"], row.explained

@@ -1,4 +1,5 @@
-"""What the tools that try the built program share: the rows, and runs of a script with the answer to each command apart.
+"""What the trials of the built program share: the rows, and runs of a script with the answer to each command apart. Where they find what they
+share with the tools (tools/checkout.py), too.
 
 A command is complete when the first byte of the next has come, and is answered before the program reads on. So a run whose
 reads end one byte into each command tells where each answer ends, and how many growths of memory it took.
@@ -12,13 +13,12 @@ import resource
 import shlex
 import shutil
 import subprocess
+import sys
 import tempfile
 from typing import Dict, List, NamedTuple, Optional
 
-TOP = os.path.dirname(os.path.dirname(os.path.realpath(__file__)))
-PROGRAM = f"{TOP}/crates/stratbench/out/stratbench"
-# What `tools/unproved` makes.
-UNPROVED = f"{TOP}/build/stratbench"
+sys.path.append(f"{os.path.dirname(os.path.dirname(os.path.realpath(__file__)))}/tools")
+from checkout import PROGRAM, TOP, UNPROVED, as_module, commands_of, contents, installed, library  # noqa: E402, F401
 
 # The refusals, by number.
 WORDS = (
@@ -42,34 +42,9 @@ class Ended(Exception):
     """A run that ended in a way that no run may."""
 
 
-def library():
-    """Returns the command that loads the library, from the source of the program."""
-    with open(f"{TOP}/crates/session_loading/src/library.rt", "rb") as it:
-        [text] = re.findall(rb'LIBRARY: &\[u8\] = b"(.*?)";', it.read(), re.DOTALL)
-    return b"module library\n " + text
-
-
 def word_of(command):
     """Returns the first word of a command."""
     return command.split()[0] if command.split() else b""
-
-
-def commands_of(script):
-    """Returns the commands of a script as docs/manual/scripts.md says: their texts with the lines that go on with them,
-    and nothing else."""
-    commands = []
-    script = re.sub(rb"\r+(?=\n|\Z)", b"", script)
-    lines = script.split(b"\n")
-    if not lines[-1]:
-        lines.pop()
-    for line in lines:
-        if line.startswith(b"#"):
-            continue
-        if line and line[:1] not in b" \t":
-            commands.append(line)
-        elif commands:
-            commands[-1] += b"\n" + line
-    return commands
 
 
 class Row(NamedTuple):
@@ -167,7 +142,7 @@ class Workbench:
         self.room = tempfile.mkdtemp(prefix="stratbench-")
         atexit.register(shutil.rmtree, self.room, ignore_errors=True)
         self.library = f"{self.room}/growths.so"
-        built = [os.environ.get("CC", "cc"), "-O2", "-shared", "-fPIC", "-Wall", "-o", self.library, f"{TOP}/tools/growths.c"]
+        built = [os.environ.get("CC", "cc"), "-O2", "-shared", "-fPIC", "-Wall", "-o", self.library, f"{TOP}/trials/growths.c"]
         subprocess.run(built, check=True)
 
     def run(self, script, words=(), refused=None, ends=(), log=None, seconds=10, limits=None):

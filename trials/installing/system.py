@@ -5,11 +5,11 @@ import re
 import shutil
 
 from c_library import SONAME, declared
+from installing.rooms import System
+from installing.shared import blocks, needs, put, session_of_readme, tried, version_of, want, want_in
 from packing.completion import options, words_of
 from packing.man import PAGES as MANUAL
 from packing.parts import Failed
-from packing.rooms import System
-from packing.trials import blocks, needs, put, session_of_readme, tried, version_of, want, want_in
 
 OPTIONS = options()
 WORDS = sorted({word for it in OPTIONS for word in words_of(it)})

@@ -7,10 +7,10 @@ import re
 import shutil
 import subprocess
 
+from installing.rooms import System
+from installing.shared import PAGES, SECONDS, got, needs, put, tried, want, want_in
+from installing.wheel import QUIET
 from packing.parts import Failed
-from packing.rooms import System
-from packing.trials import PAGES, SECONDS, got, needs, put, tried, want, want_in
-from packing.try_wheel import QUIET
 
 PAGE = "docs/manual/team.md"
 # Where the machine's own commands are.

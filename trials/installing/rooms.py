@@ -9,8 +9,8 @@ import re
 import subprocess
 
 from c_library import kit
+from installing.shared import SECONDS
 from packing.parts import Failed
-from packing.trials import SECONDS
 from workbench import TOP
 
 # Where a package of Debian may leave something: what dpkg notes, and the caches of the loader and of man.

@@ -7,8 +7,8 @@ import subprocess
 import sys
 import venv
 
+from installing.shared import SECONDS, fenced, got, put, session_of_readme, tried, version_of, want, want_in
 from packing.parts import Failed
-from packing.trials import SECONDS, fenced, got, put, session_of_readme, tried, version_of, want, want_in
 
 # What pip would ask the network for.
 QUIET = {"PIP_NO_INDEX": "1", "PIP_DISABLE_PIP_VERSION_CHECK": "1", "PIP_ROOT_USER_ACTION": "ignore"}

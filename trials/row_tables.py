@@ -1,6 +1,6 @@
 """Tables of strategies: each row is tried on the built program, by `preview`, `apply`, `undo` and `redo`.
 
-rows/README.md has the form of a table, and tools/rows runs all of them. In a row `{x*N}` stands for N times x, for texts at the
+rows/README.md has the form of a table, and trials/rows runs all of them. In a row `{x*N}` stands for N times x, for texts at the
 bounds.
 """
 

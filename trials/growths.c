@@ -1,4 +1,4 @@
-// Preloaded into a run of stratbench by the tools: numbers the growths of memory from 1 and refuses some of them, and
+// Preloaded into a run of stratbench by trials: numbers the growths of memory from 1 and refuses some of them, and
 // gives standard input in pieces that end at given places. Read from the environment:
 //
 //   GROWTHS_REFUSED  two numbers "FIRST LAST": the growths from FIRST to LAST are refused

@@ -1,0 +1,1 @@
+"""How `trials/package` tries what can be installed."""
