@@ -156,7 +156,11 @@ impl<M: Meaning> Watch<M> for Hints {
         self.consume(bytes);
     }
 
-    fn expected(&mut self, _session: &Session<M>, _command: Piece<'_>) {}
+    fn expected(&mut self, session: &Session<M>, command: Piece<'_>) {
+        if self.observer.wanted().explanations {
+            self.observer.expected(session, command);
+        }
+    }
 
     fn accepted(&mut self, session: &Session<M>, command: Piece<'_>) {
         if self.observer.wanted().explanations {
