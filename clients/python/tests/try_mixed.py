@@ -8,6 +8,7 @@ import sys
 import tempfile
 from typing import NamedTuple
 
+import try_languages
 from stratbench import languages
 from stratbench.languages.language import Missing
 
@@ -189,6 +190,9 @@ def options(top, name, small):
 
 
 def tests(top, everything):
+    # what others install at this time is waited for
+    for name in RULES:
+        try_languages.missing(name)
     yield from data(top)
     yield from scripts(top)
     for name, small in RULES.items():
