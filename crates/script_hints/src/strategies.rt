@@ -6,6 +6,8 @@ use hint_text::has_word;
 const DEFINED: &str =
     "control repeat repeat1 while while-not do-while fixpoint topdown bottomup innermost
 control innermost-built normalise-levels
+free-variables free-variables is-closed bound-here add-free add-free-of-each add-free-by-role
+free-variables with-roles names-bound
 lists is-list conc at-end concat reverse length last elem fetch fetch-elem lookup filter
 lists remove-all zip unzip take drop merge-sort merge-runs merge-neighbours merge nub union isect
 lists diff foldr foldl
@@ -13,7 +15,10 @@ names explode-string implode-string conc-strings concat-strings string-length st
 names without-prefix skip to-upper to-lower upper-case lower-case capitalize-string newname
 names newnames greatest-number fresh-number fresh-name renaming rename try-rename rename-apart
 numbers add subt mul div mod inc dec gt lt geq leq max min is-int even int-to-string string-to-int
-terms get-arguments take-arguments crush collect-all collect-all-of-each collect collect-of-each
+substitution substitute-free substitute-in substitute-in-scope substitute-by-role is-about
+substitution to-variable unique-names alpha-equal unique unique-each unique-by-role number-names
+terms get-arguments take-arguments set-arguments set-each crush collect-all collect-all-of-each
+terms collect collect-of-each
 terms subterms occurrences occurrences-in-each substitute preserve-annos eq-ignore-annos
 terms strip-annos compare term-gt term-lt is-string explode-term mkterm";
 
