@@ -145,8 +145,9 @@ class Page:
         return re.search(rf"^tree {re.escape(name)} (.*)$", self.shown("#dump"), re.MULTILINE)[1]
 
     def shown(self, selector):
-        """The text of the dialog that a button opens."""
+        """The text of the dialog that a button opens, once it is open: an address is deflated first, and a dump is a run."""
         self.click(selector)
+        self.until(lambda: self.js("return document.getElementById('text-dialog').open"), f"{selector} opens a dialog")
         text = self.js("return document.getElementById('text-shown').value")
         self.js("document.getElementById('text-dialog').close()")
         return text
