@@ -1,11 +1,12 @@
-"""The words of commands, refusals, faults and the language, as the sources of the program have them, beside those that clients, grammars, trials
-and the manual write by hand. The program's are the ones that count."""
+"""The words of commands, options, refusals, faults and the language, as the sources of the program have them, beside those that clients, grammars,
+trials and the manual write by hand. The program's are the ones that count."""
 
 import json
 import re
 import sys
 
-from workbench import KINDS, TOP, WITHOUT_MEMORY, WORDS, as_module, word_of
+from workbench import KINDS, TOP, WITHOUT_MEMORY, WORDS, as_module, word_of  # isort: skip
+from packing.completion import options, words_of
 
 sys.path.insert(0, f"{TOP}/clients/python")
 from stratbench.shell import session, syntax  # noqa: E402
@@ -90,9 +91,32 @@ def examples():
         yield word, " ".join([word, *(OPERANDS.get(it, it) for it in operands)])
 
 
+def first_column(page, section, pattern):
+    """What a pattern finds at the beginning of rows of a section of the manual."""
+    [text] = found(f"docs/manual/{page}", rf"^#+ {section}\n(.*?)(?=^## |\Z)", re.MULTILINE | re.DOTALL)
+    return re.findall(rf"^\| {pattern}", text, re.MULTILINE)
+
+
 def of_the_manual():
-    section = contents("docs/manual/scripts.md").split("\n## Commands\n")[1].split("\n- ")[0]
-    return dict(f"{it} ".split(" ", 1) for it in re.findall(r"^\| `([^`]*)` \|", section, re.MULTILINE))
+    return dict(f"{it} ".split(" ", 1) for it in first_column("scripts.md", "Commands", "`([^`]*)` [|]"))
+
+
+def options_of_the_manual():
+    return [word for cell in first_column("scripts.md", "Scripts and commands", "(`-[^|]*)[|]") for word in re.findall("`([^`]*)`", cell)]
+
+
+def options_of_node():
+    """The options that the command for node takes or lacks, as its trial and its source list them."""
+    [taken], [lacks] = found("trials/installing/node.py", r"^TAKEN = \{(.*)\}$", re.MULTILINE), found("clients/node/options.mjs", r"^const LACKS = \[(.*)\];$", re.MULTILINE)
+    return [*re.findall('"(-[^"]+)"', taken), *(f"--{it}" for it in re.findall("'([^']*)'", lacks))]
+
+
+def reserved_of_editors():
+    """The reserved words of each editor that has them in a list."""
+    folder = "clients/editors"
+    yield "Vim", " ".join(found(f"{folder}/vim/syntax/stratego.vim", r"^syntax keyword stratego(?:Section|Form) (.*)$", re.MULTILINE)).split()
+    yield "Kate", found(f"{folder}/kate/stratego.xml", r"<item>(\w+)</item>")
+    yield "Emacs", re.findall(r"\w+", " ".join(found(f"{folder}/emacs/stratego-mode.el", r"\(regexp-opt '\(([^)]*)\)")))
 
 
 def keys_of(path, name):
@@ -111,16 +135,26 @@ def compared():
     yield "commands that the shell knows as such", " ".join(word for word, it in examples() if not syntax._BEGINS.match(it))
     yield "commands of the shell that end in a text", differing(syntax._LONG, [word for word, form in table.items() if form.rstrip().endswith(("T", "M", "S", "{..}"))])
     yield "commands of the shell that are steps", beyond(table, session._CHANGES)
+    completion = contents("clients/python/stratbench/shell/completion.py")
+    yield "commands whose names the shell completes", " ".join(it for it, form in table.items() if re.search(r"\bN\b", form) and f'"{it}"' not in completion)
     client = contents("clients/python/stratbench/__init__.py")
     yield "commands of the client", " ".join(it for it in table if not re.search(rf'"{it}(?:[ "]|\\)', client))
     yield "commands of mutate", beyond(decoded(mutate.WORDS), table) + beyond(table, decoded(mutate.ANSWERS))
     yield "commands of refuse", beyond(decoded(map(word_of, refuse.FORMS)), table)
     yield "commands without memory", differing(without_memory(), decoded(WITHOUT_MEMORY))
+    yield "options of the manual", differing([f"{word} {it.value}".rstrip() for it in options() for word in words_of(it)], options_of_the_manual())
+    # its help is in words of its own
+    yield "options of the package for node", differing(["--", *(word for it in options() if it.name != "help" for word in words_of(it))], options_of_node())
     yield "refusals of the trials", differing(enumerate(WORDS, 1), refusals().items())
+    # one has its fault in place of a word
+    listed = first_column("scripts.md", "Refusals", r"`(\d+) (\w+)")
+    yield "refusals of the manual", differing(listed, ((f"{number}", "KIND" if word == "check" else word) for number, word in refusals().items()))
     yield "refusals of the page", beyond(map(str, refusals()), keys_of("clients/web/explain.mjs", "MEANINGS"))
     yield "faults of the trials", differing(faults(), KINDS.split())
     yield "faults of the page", differing(faults(), keys_of("clients/web/explain.mjs", "FAULTS")) + beyond(faults(), keys_of("clients/web/explain.mjs", "REPAIRS"))
+    yield "faults of the manual", differing(faults(), first_column("modules.md", "Faults", r"`(\w+) "))
     yield "reserved words of the shell", differing(reserved(), syntax.RESERVED)
     yield "reserved words of the page", beyond(reserved(), keys_of("clients/web/names.mjs", "FORMS"))
+    yield from ((f"reserved words of {editor}", differing(reserved(), words)) for editor, words in reserved_of_editors())
     [manual] = found("docs/manual/strategies.md", r"`(module signature [a-z ]*)` are reserved")
     yield "reserved words of the manual", differing(reserved(), manual.split())

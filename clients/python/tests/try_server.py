@@ -14,7 +14,6 @@ import subprocess
 import sys
 import tempfile
 import time
-import xml.etree.ElementTree
 
 import packages
 from stratbench.server import answers, layout, reading
@@ -23,7 +22,6 @@ from stratbench.server.folder import Folder, Modules
 from stratbench.server.messages import receive, send
 from stratbench.server.never import never
 from stratbench.server.texts import Text, path_of, uri_of
-from stratbench.strategies import RESERVED
 
 CLIENT = os.path.dirname(os.path.dirname(os.path.realpath(__file__)))
 EXAMPLE = re.compile(r"^ *// example: (.+) on (.+?) (?:gives .+|fails)$", re.MULTILINE)
@@ -691,15 +689,9 @@ def vims(top):
             yield f"{words[0]} indents {len(files)} modules", "\n".join(other)
 
 
-def words_of_editors(top):
-    """The editors' files have the reserved words, and the server's command."""
+def command_of_editors(top):
+    """The editors' files have the server's command."""
     folder = f"{top}/clients/editors"
-    kate = [it.text for it in xml.etree.ElementTree.parse(f"{folder}/kate/stratego.xml").iter("item")]
-    lines = re.findall(r"^syntax keyword stratego(?:Section|Form) (.*)$", contents(f"{folder}/vim/syntax/stratego.vim"), re.MULTILINE)
-    emacs = re.findall(r"regexp-opt '\((.*?)\)", contents(f"{folder}/emacs/stratego-mode.el"))
-    found = {"Kate": kate, "Vim": " ".join(lines).split(), "Emacs": re.findall(r'"(\w+)"', " ".join(emacs))}
-    for name, words in found.items():
-        yield f"the reserved words of {name}", "" if sorted(words) == sorted(RESERVED) else f"{set(words) ^ RESERVED}"
     command = json.loads(contents(f"{folder}/kate/settings.json"))["servers"]["stratego"]["command"]
     helix = re.findall(r'^(?:command|args) = (.*)$', contents(f"{folder}/helix/languages.toml"), re.MULTILINE)
     same = command == ["python3", "-m", "stratbench.server"] == [json.loads(helix[0]), *json.loads(helix[1])]
@@ -758,7 +750,7 @@ def tests(top, everything):
     yield from mistakes(top, everything)
     yield from names_change(top)
     yield from through_neovim()
-    yield from words_of_editors(top)
+    yield from command_of_editors(top)
     yield from vims(top)
     yield from through_emacs(top)
     yield from by_code(top)
