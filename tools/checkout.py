@@ -10,6 +10,10 @@ import sys
 from typing import List, NamedTuple
 
 TOP = os.path.dirname(os.path.dirname(os.path.realpath(__file__)))
+sys.path.append(f"{TOP}/clients/python/tests")
+import packages as debian  # noqa: E402
+from packages import LEFT_OUT, left_out  # noqa: E402, F401
+
 # What `rt ci` leaves.
 PROGRAM = f"{TOP}/crates/stratbench/out/stratbench"
 # What `tools/unproved` makes.
@@ -32,8 +36,7 @@ def as_module(path):
 def installed(packages):
     """Whether these packages of Debian could be installed."""
     print(f"installing {', '.join(packages)} from Debian's packages", flush=True)
-    sys.path.append(f"{TOP}/clients/python/tests")
-    return not importlib.import_module("packages").installed(*packages)
+    return not debian.installed(*packages)
 
 
 def library():

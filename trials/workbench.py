@@ -18,7 +18,7 @@ import tempfile
 from typing import Dict, List, NamedTuple, Optional
 
 sys.path.append(f"{os.path.dirname(os.path.dirname(os.path.realpath(__file__)))}/tools")
-from checkout import PROGRAM, TOP, UNPROVED, as_module, commands_of, contents, installed, library  # noqa: E402, F401
+from checkout import LEFT_OUT, PROGRAM, TOP, UNPROVED, as_module, commands_of, contents, installed, left_out, library  # noqa: E402, F401
 
 # The refusals, by number.
 WORDS = (

@@ -12,7 +12,7 @@ from concurrent.futures import ThreadPoolExecutor
 from deepest import OPEN_GROUP
 from installing.shared import SECONDS, got, needs, put, session_of_readme, tried, version_of, want, want_in
 from packing.parts import Failed, contents
-from workbench import TOP, files_of_rows, rows_of
+from workbench import TOP, files_of_rows, left_out, rows_of
 
 # The options of rows that the package has. A line that is wrong is said in other words, and a refused budget too.
 TAKEN = {"--lines", "--library", "--explain", "--explain=json", "--explain-json", "--module", "--tree", "--write", "--pretty", "--steps", "--max-steps", "--max-terms", "--stop", "-i", "--interactive", "--version", "-V", "--"}
@@ -210,5 +210,5 @@ def trials(room, file, build):
     if shutil.which("npm"):
         every.append(("by npm", lambda: by_npm(package, room, file, build)))
     else:
-        print("package for node: by npm: left out without npm")
+        left_out("package for node: by npm", "there is no npm")
     return tried("package for node", every)

@@ -7,7 +7,7 @@ import subprocess
 import time
 
 from packing.parts import Failed, contents, stamp, text_of
-from workbench import TOP
+from workbench import TOP, left_out
 
 # How long a command may take: that of a busy machine.
 SECONDS = 900
@@ -80,8 +80,8 @@ def tried(group, trials):
             trial()
             outcome = "as wanted"
         except Lacking as program:
-            outcome = f"left out without {program}"
-            failed += os.environ.get("CI") == "true"
+            failed += left_out(f"{group}: {name}", f"there is no {program}")
+            continue
         except (Failed, OSError, subprocess.SubprocessError) as why:
             outcome, wrong = "FAILED", [str(why)]
             failed += 1

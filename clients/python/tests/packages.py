@@ -1,5 +1,5 @@
-"""Libraries of Python that the tests want: of the Python that runs them, or of Debian's, into which they are installed where that can
-be done."""
+"""What the trials want of this machine: libraries of Python, of the one that runs them or of Debian's, and Debian's packages, which are
+installed where that can be done. And how a trial says what it leaves out."""
 
 import fcntl
 import os
@@ -10,6 +10,20 @@ import tempfile
 import time
 
 DEBIAN = "/usr/bin/python3"
+# How each line begins that says what is left out. `trials/try` repeats these lines at its end.
+LEFT_OUT = "left out: "
+
+
+def left_out(what, why):
+    """Prints what is left out, and why. Returns whether that is a failure, as in a run with `CI=true` it is where the trial has to be made."""
+    print(f"{LEFT_OUT}{what}: {why}", flush=True)
+    return os.environ.get("CI") == "true"
+
+
+def untried(what, why):
+    """The tests in place of one that is left out and has to be made: one that fails in a run with `CI=true`, and else none."""
+    if left_out(what, why):
+        yield what, f"{why}"
 
 
 def found(module):
@@ -31,7 +45,7 @@ def installed(*names):
     """What kept packages of Debian from being installed, or nothing. It is printed, too, for who runs the trials."""
     why = _installed(*names)
     if why:
-        print(f"lacks Debian's {', '.join(names)}: {why.strip().splitlines()[-1]}", flush=True)
+        left_out(f"what needs Debian's {', '.join(names)}", why.strip().splitlines()[-1])
     return why
 
 

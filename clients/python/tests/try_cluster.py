@@ -17,7 +17,7 @@ import zlib
 
 import try_languages
 import try_mixed
-from packages import interpreter
+from packages import interpreter, untried
 from stratbench import cluster
 from try_commands import Room, wanted
 
@@ -121,9 +121,9 @@ def tests(top, everything):
     work = zlib.compress(pickle.dumps(((3, 0), b"", ("", ""), b"")))
     ran = subprocess.run([sys.executable, "-c", cluster._PROCESS], input=work, capture_output=True)
     yield "another version of Python", "" if ran.returncode == 3 and b", and not 3.0 as here" in ran.stderr else f"{ran.stderr}"
-    python, why = interpreter("distributed", "python3-distributed")
+    python, _ = interpreter("distributed", "python3-distributed")
     if python is None:
-        yield f"left out, since this machine lacks python3-distributed: {why}", "CI=true" if os.environ.get("CI") == "true" else ""
+        yield from untried("the cluster", "no Python here has Debian's python3-distributed")
         return
     yield from spread(top, python)
     yield from mixed(top, python)
@@ -177,7 +177,7 @@ def mixed(top, python):
             try_languages.missing(name)
             ran = subprocess.run([python, "-c", THERE, name, small.suffix, small.text], env=environment, capture_output=True, text=True)
             if ran.returncode != 0:
-                yield f"{name}: left out: {ran.stderr.splitlines()[-1]}", "CI=true" if os.environ.get("CI") == "true" else ""
+                yield from untried(f"{name} on two workers", ran.stderr.splitlines()[-1])
                 continue
             # few, since a batch is a process of its own, which starts what the language needs
             texts = {f"{at}{small.suffix}": small.text for at in range(2)}

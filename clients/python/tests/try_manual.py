@@ -11,9 +11,9 @@ import sys
 import tempfile
 import time
 
+import try_languages
 from packages import found as python_with
-from stratbench import languages
-from stratbench.languages.language import Missing
+from packages import left_out, untried
 from stratbench.shell.commands import OWN
 from terminals import CONTROL, MOST, Terminal, Unlike, surroundings
 
@@ -22,12 +22,12 @@ def tests(top, everything):
     yield from commands(top, "python.md")
     yield from commands(top, "another-language.md")
     yield from commands(top, "rules.md")
-    try:
-        languages.named("javascript").sources([("a.js", b"")])
+    lacks = try_languages.missing("javascript")
+    if lacks:
+        yield from untried("docs/manual/languages.md and coming-from.md", lacks)
+    else:
         yield from commands(top, "languages.md")
         yield from commands(top, "coming-from.md")
-    except Missing as error:
-        yield f"docs/manual/languages.md and coming-from.md: left out: {error}", ""
     with open(f"{top}/docs/manual/shell.md") as it:
         page = it.read()
     sessions = re.findall(r"^```\n(> .*?)^```$", page, re.MULTILINE | re.DOTALL)
@@ -37,7 +37,7 @@ def tests(top, everything):
     yield from typed(top, sessions, files)
     python = python_with("prompt_toolkit")
     if python is None or shutil.which("tmux") is None:
-        yield "the shell's sessions with prompt_toolkit: left out, since this machine lacks it, or tmux", ""
+        left_out("the shell's sessions with prompt_toolkit", "no Python here has it, or there is no tmux")
     else:
         yield from on_screen(top, python, sessions, files)
 

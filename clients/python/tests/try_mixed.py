@@ -9,6 +9,7 @@ import tempfile
 from typing import NamedTuple
 
 import try_languages
+from packages import untried
 from stratbench import languages
 from stratbench.languages.language import Missing
 
@@ -94,7 +95,7 @@ def data(top):
     try:
         languages.named("yaml").sources([("a.yaml", b"a: 1")])
     except Missing as error:
-        yield f"YAML: left out: {error}", str(error) if os.environ.get("CI") == "true" else ""
+        yield from untried("files of YAML and JSON", error)
         return
     room = Room(top, {
         "words.str": WORDS, "texts.str": TEXTS, "a/b.json": '["old"]\n', "a/c.yaml": "- old\n", "a/d.txt": "old\n", "a/e.py": "old\n", "a/.gitignore": "out\n*.tmp.json\n",
@@ -131,7 +132,7 @@ def scripts(top):
     try:
         languages.named("javascript").sources([("a.js", b"")])
     except Missing as error:
-        yield f"JavaScript: left out: {error}", str(error) if os.environ.get("CI") == "true" else ""
+        yield from untried("files of JavaScript", error)
         return
     files = {f"{at}.js": f"old({at}); // one\nf(\n  g(1 /* two */)\n);\n" for at in range(6)}
     room = Room(top, {"script.str": SCRIPT, "broken.js": "f(\n", "a.ts": "let a = old as any\n", "b.tsx": "x = <a b={old}>old</a>\n", **files})
@@ -157,7 +158,7 @@ def options(top, name, small):
     try:
         language.sources([("a" + small.suffix, small.text.encode())])
     except Missing as error:
-        yield f"{name}: left out: {error}", str(error) if os.environ.get("CI") == "true" else ""
+        yield from untried(f"the options with {name}", error)
         return
     files = {f"{at}{small.suffix}": small.text for at in range(5)}
     room = Room(top, {"mine.str": small.rules, "loses" + small.suffix: small.loses, "broken" + small.suffix: small.broken, **files})

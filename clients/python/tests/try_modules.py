@@ -10,6 +10,7 @@ import tempfile
 import traceback
 import warnings
 
+from packages import left_out
 from stratbench import Stratbench, python, refactor, terms
 from stratbench.patch import apply_edits, patch
 
@@ -188,7 +189,7 @@ def tests(top, everything):
 def copies(top, names):
     """Patched copies of modules pass their own tests."""
     if not os.path.exists(f"{FOLDER}/test/test_bisect.py"):
-        yield "patched copies: this machine has no tests of the standard library", ""
+        left_out("patched copies of modules", "this machine has no tests of the standard library")
         return
     modules = library(top, "python", "lists", "terms", "names", "python-conditions", "python-names", "python-statements", "python-strings")
     strategy = "rename-self(|\"me\"); bottomup(try(NegatedTest <+ NegatedIf <+ AugmentedNumber <+ FormatToFString))"

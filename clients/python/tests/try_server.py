@@ -261,9 +261,8 @@ def names_change(top):
 def mistakes(top, everything):
     """Mistakes in a folder of forty modules, those of `strategies` among them, are told in the definitions that have them, while somebody
     types in Neovim, a mistake a second. How long that may take is asked of a quiet machine alone, with `--all`."""
-    why = without_neovim()
-    if why is not None:
-        yield "mistakes through Neovim: left out, since there is none", why
+    if not has_neovim():
+        yield from packages.untried("mistakes through Neovim", "there is none")
         return
     choose = random.Random(2)
     with tempfile.TemporaryDirectory() as room:
@@ -343,10 +342,9 @@ renamed\t  four(s) = double(double(s))
 """
 
 
-def without_neovim():
-    """None where there is a Neovim, or one can be installed; else what is wrong with that, in a run that has to have one."""
-    why = "" if shutil.which("nvim") else packages.installed("neovim")
-    return None if shutil.which("nvim") else why if os.environ.get("CI") else ""
+def has_neovim():
+    """Whether there is a Neovim, or one could be installed."""
+    return bool(shutil.which("nvim")) or not packages.installed("neovim")
 
 
 def neovim(room, script, **more):
@@ -366,9 +364,8 @@ def by_neovim(room, script, **more):
 
 
 def through_neovim():
-    why = without_neovim()
-    if why is not None:
-        yield "through Neovim: left out, since there is none", why
+    if not has_neovim():
+        yield from packages.untried("the server through Neovim", "there is none")
         return
     with tempfile.TemporaryDirectory() as room:
         said, found = by_neovim(room, "neovim", FILE=written(room, "m.str", MODULE))
@@ -445,7 +442,7 @@ def through_emacs(top):
     """Emacs with Eglot, which isn't installed for this: it takes minutes."""
     eglot = sorted(glob.glob("/usr/share/emacs/site-lisp/elpa-src/eglot-*/eglot.el"))
     if not shutil.which("emacs") or not eglot:
-        yield "through Emacs: left out, since Emacs or Eglot isn't there", ""
+        packages.left_out("the server through Emacs", "Emacs or Eglot isn't there")
         return
     with tempfile.TemporaryDirectory() as room:
         path = written(room, "m.str", MODULE)
@@ -475,9 +472,8 @@ message: four(\\ G(x) -> x \\) on G(G(G(G(1)))) gives 1
 
 def by_code(top):
     """VS Code's extension, which is started as VS Code starts it."""
-    why = "" if shutil.which("node") else packages.installed("nodejs")
-    if not shutil.which("node"):
-        yield "VS Code's extension: left out, since there is no node", why if os.environ.get("CI") else ""
+    if not shutil.which("node") and packages.installed("nodejs"):
+        yield from packages.untried("VS Code's extension", "there is no node")
         return
     with tempfile.TemporaryDirectory() as room:
         text = MODULE.replace("strategies", "signature constructors G : t -> t strategies") + "  // > four(\\ G(x) -> x \\) on G(G(G(G(1))))\n"
@@ -668,7 +664,7 @@ def vims(top):
     files = sorted(glob.glob(f"{top}/strategies/*.str") + glob.glob(f"{top}/examples/*/*.str"))
     for words in (["nvim", "--headless", "-u", "NONE", "-i", "NONE", "-n"], ["vim", "-es", "-u", "NONE", "-i", "NONE", "-n", "-N"]):
         if not shutil.which(words[0]):
-            yield f"{words[0]}: left out, since there is none", ""
+            packages.left_out(f"colours and layout by {words[0]}", "there is none")
             continue
         with tempfile.TemporaryDirectory() as room:
             every = [layout.laid_out(contents(it)) for it in files]

@@ -7,7 +7,7 @@ import subprocess
 import sys
 import tempfile
 
-from packages import interpreter
+from packages import interpreter, left_out
 from stratbench.shell.session import Again, Session
 from terminals import Terminal, Unlike
 
@@ -434,9 +434,9 @@ def tests(top, everything):
     yield from screens(top, sys.executable, (uncoloured,), "readline, as asked for", STRATBENCH_PLAIN="1", NO_COLOR="1")
     yield from screens(top, sys.executable, (replaced,), "readline", ("prompt_toolkit",), STRATBENCH="./program")
     yield from screens(top, sys.executable, (first, cut), "neither", ("prompt_toolkit", "readline"))
-    python, why = interpreter("prompt_toolkit", "python3-prompt-toolkit")
+    python, _ = interpreter("prompt_toolkit", "python3-prompt-toolkit")
     if python is None:
-        yield f"prompt_toolkit: left out, since this machine lacks it: {why}", ""
+        left_out("the shell with prompt_toolkit", "no Python here has it")
         return
     yield from screens(top, python, SCENES, f"prompt_toolkit of {python}")
     yield from screens(top, python, (uncoloured,), f"prompt_toolkit of {python}", NO_COLOR="1")

@@ -26,6 +26,10 @@ from selenium.webdriver.chrome.service import Service
 from selenium.webdriver.common.by import By
 from selenium.webdriver.common.keys import Keys
 
+TOP = os.path.realpath(f"{os.path.dirname(__file__)}/../../..")
+sys.path.append(f"{TOP}/clients/python/tests")
+from packages import left_out  # noqa: E402
+
 DESK, PHONE, NARROW = (1280, 900), (390, 844), (320, 640)
 TOUR, DONE = 'Plus(Times(Plus(2,3),Var("x")),Times(4,0))', 'Times(5,Var("x"))'
 WAIT = 60
@@ -34,7 +38,6 @@ ENDLESS = "repeat({x: ?(x,x)})"
 # A pattern so deep that a worker's stack, which is smaller than that of a program, runs out.
 DEEPEST = "?" + "(" * 1995 + "1" + ")" * 1995
 LONG = "[" + ",".join(["a"] * 20000) + "]"
-TOP = os.path.realpath(f"{os.path.dirname(__file__)}/../../..")
 SOURCE = ".source-pane"
 
 
@@ -1355,8 +1358,7 @@ def main():
                 page.size(*DESK)
                 page.open()
                 if getattr(trial, "needs_parser", False) and not page.has_parser():
-                    print(f"{name[4:].replace('_', ' ')}: left out, since the page has no parser for JavaScript", flush=True)
-                    failed += os.environ.get("CI") == "true"
+                    failed += left_out(name[4:].replace("_", " "), "the page has no parser for JavaScript")
                     continue
                 trial(page, *words)
                 errors = [it["message"] for it in driver.get_log("browser") if it["level"] == "SEVERE"]
