@@ -27,7 +27,7 @@ function s:Opened(text)
   let opened = 0
   let at = 0
   while 1
-    let [sign, at, end] = matchstrpos(a:text, '[()\[\]{}]\|\<if\>\|\<end\>', at)
+    let [sign, at, end] = matchstrpos(a:text, '[()[\]{}]\|\<if\>\|\<end\>', at)
     if at < 0
       return opened
     endif
