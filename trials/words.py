@@ -9,6 +9,7 @@ from workbench import KINDS, TOP, WITHOUT_MEMORY, WORDS, as_module, word_of  # i
 from packing.completion import options, words_of
 
 sys.path.insert(0, f"{TOP}/clients/python")
+from stratbench import strategies  # noqa: E402
 from stratbench.shell import session, syntax  # noqa: E402
 
 # What an operand of a form is, in a command that fits it.
@@ -153,7 +154,7 @@ def compared():
     yield "faults of the trials", differing(faults(), KINDS.split())
     yield "faults of the page", differing(faults(), keys_of("clients/web/explain.mjs", "FAULTS")) + beyond(faults(), keys_of("clients/web/explain.mjs", "REPAIRS"))
     yield "faults of the manual", differing(faults(), first_column("modules.md", "Faults", r"`(\w+) "))
-    yield "reserved words of the shell", differing(reserved(), syntax.RESERVED)
+    yield "reserved words of the client", differing(reserved(), strategies.RESERVED)
     yield "reserved words of the page", beyond(reserved(), keys_of("clients/web/names.mjs", "FORMS"))
     yield from ((f"reserved words of {editor}", differing(reserved(), words)) for editor, words in reserved_of_editors())
     [manual] = found("docs/manual/strategies.md", r"`(module signature [a-z ]*)` are reserved")

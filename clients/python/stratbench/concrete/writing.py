@@ -9,15 +9,12 @@ from __future__ import annotations
 from collections.abc import Iterator, Sequence
 from dataclasses import dataclass, field
 from itertools import count
-from typing import Final, NamedTuple, Union
+from typing import NamedTuple, Union
 
+from ..strategies import RESERVED
 from .adapter import Adapter
 from .pattern import Apply, At, Either, Hole, Inside, Items, Leaf, Pattern, Raw, Unseen
 from .text import Fault, Made, joined, put
-
-RESERVED: Final = frozenset(
-    "module signature sorts constructors rules strategies id fail all one some not where test if then else end rec prim".split()
-)
 
 
 def variable(name: str) -> str:

@@ -9,8 +9,9 @@ from collections.abc import Callable, Iterator, Sequence
 from typing import NamedTuple
 
 from .. import Refused
+from ..strategies import RESERVED
 from .session import Session
-from .syntax import FORMS, RESERVED, commands, definitions
+from .syntax import FORMS, commands, definitions
 from .view import brief
 
 
@@ -131,7 +132,7 @@ class Completer:
                 word = defined.name + ("(" if defined.arguments else "")
                 found[defined.name] = Candidate(word, defined.name + defined.arguments, kind)
         yield from (found[it] for it in sorted(found))
-        yield from (Candidate(it, it, "reserved") for it in RESERVED)
+        yield from (Candidate(it, it, "reserved") for it in sorted(RESERVED))
 
 
 def _files(word: str) -> Iterator[Candidate]:

@@ -6,6 +6,8 @@ import re
 from collections.abc import Iterable, Iterator
 from typing import Final, Literal, NamedTuple
 
+from ..strategies import RESERVED
+
 # The commands of the workbench with their forms.
 FORMS: Final = {
     "tree": "N T", "copy": "N C", "drop": "N", "put": "N P T", "annotate": "N P {..}", "module": "N M", "unload": "N",
@@ -17,7 +19,6 @@ FORMS: Final = {
 _LONG: Final = ("tree", "put", "annotate", "module", "apply", "preview")
 _SECTIONS: Final = ("module", "signature", "sorts", "constructors", "rules", "strategies")
 _OUTER: Final = ("signature", "rules", "strategies")
-RESERVED: Final = (*_SECTIONS, *"id fail all one some not where test if then else end rec prim".split())
 
 _WORD: Final = r"[A-Za-z_][A-Za-z0-9_'-]*"
 _STRING: Final = r'"(?:\\.|[^"\\])*"?'
