@@ -129,9 +129,11 @@ class Page:
         return self.js(EDITOR + "return cm ? cm.getValue() : field.value", pane)
 
     def type_into(self, pane, text):
-        """Types into the editor of a pane, when the page has put the focus there, and waits until the editor has read it."""
-        self.until(lambda: self.js("return document.querySelector(arguments[0]).contains(document.activeElement)", pane),
-            f"the focus is in {pane}")
+        """Types into the editor of a pane, when the page has put the focus there, and waits until the editor has read it. A dialog that
+        closes first gives the focus back to the button that opened it, which may be in the pane, too."""
+        self.until(lambda: self.js("""const it = document.activeElement;
+            return document.querySelector(arguments[0]).contains(it) && it.matches('textarea, [contenteditable]')""", pane),
+            f"the focus is in the editor of {pane}")
         self.driver.switch_to.active_element.send_keys(text)
         self.until(lambda: text in self.editor(pane), f"what was typed is in {pane}")
 
