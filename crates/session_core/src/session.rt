@@ -14,6 +14,7 @@ ghost use Rattle.session_modules.specs.Kept.{Belong};
 use crate::applying::apply_strategy;
 use crate::preview::{Preview, preview_strategy};
 use prim_core::{Meaning, Primitives};
+use session_changes::diff;
 use session_history::{CheckedTexts, Limits, ModuleCache, ReadModule, Refusal, Timeline};
 use std::alloc::Global;
 use std::marker::Model;
@@ -359,7 +360,7 @@ impl<M: Meaning> Session<M> {
         ensures err { OnErr result (out.new.items ≡ out.old.items) }
         ensures room { vec_capacity out.old ≤ vec_capacity out.new }
     {
-        self.timeline.diff(name, out)
+        diff(&mut self.timeline, name, out)
     }
 
     /// Goes `n` steps back: the contents become those from before the last `n` steps; 0 changes

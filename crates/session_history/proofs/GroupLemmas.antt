@@ -1,22 +1,17 @@
 -- Compacting the changes of an open group, and what the last step began with.
-use Rattle.std.proofs.Common.{◌≡◌, ℕ, ◌+◌, ◌-◌, ◌≤◌, Bool, true, false, List, [], ◌∷◌, ◌++◌, length, take, drop, slice_get, codes, decimal, Some, None, Ok, Err, ok_or, option_map, refl, sym, ap, ◌∙◌, subst, arith}
+use Rattle.std.proofs.Common.{◌≡◌, ℕ, ◌+◌, ◌-◌, ◌≤◌, Bool, true, false, List, [], ◌∷◌, ◌++◌, length, take, drop, slice_get, Some, None, Ok, Err, ok_or, option_map, refl, sym, ap, ◌∙◌, subst, arith}
 use Rattle.std.specs.declared.option.Option.{Option}
 use Rattle.std.specs.Bool.{OnFalse}
 use Rattle.std.specs.Option.{option_map_or}
-use Rattle.std.specs.List.{flat_map}
-use Rattle.term_changes.specs.Contents.{Contents}
 use Rattle.prim_core.specs.Signature.{Signature}
 use Rattle.term_changes.specs.Slots.{Store, contents}
 use Rattle.term_changes.specs.Entries.{Entry, before, Fits}
 use Rattle.session_modules.specs.declared.refusal.Refusal.TheVariants.{NoUndo}
-use Rattle.session_history.specs.Differences.{base_of, changes_of, diff_text, TellsChanges}
-use Rattle.session_history.specs.inside.Lined.{AddsLines}
-use Rattle.session_history.specs.inside.Told.{LeadsToBase, log_lines}
-use Rattle.session_history.specs.History.{HistoryGroup, History}
+use Rattle.session_history.specs.Differences.{base_of}
+use Rattle.session_history.specs.Leading.{LeadsToBase}
+use Rattle.session_history.specs.History.{HistoryGroup}
 use Rattle.session_history.specs.Moving.{KeepsHistory}
 use Rattle.session_history.specs.Unfolded.{Logged, past_of, later_of, FitBack, FitForward, IsCurrent, IsPlaced, unfolded}
-use Rattle.session_history.specs.declared.lines.CountedLines.{CountedLines}
-use Rattle.session_modules.specs.declared.refusal.Refusal.{Refusal}
 use Rattle.session_history.specs.declared.timeline.OpenGroup.{OpenGroup}
 use Rattle.session_history.proofs.TimelineLemmas.{past_of-append, FitBack-split, take_next}
 
@@ -96,42 +91,8 @@ group_base t g inside ps =
 pub group_leads : (t : Logged) → IsPlaced t → (g : OpenGroup) → t.group ≡ Some g → LeadsToBase t.current t
 group_leads t placed g inside = record { base = group_base t g inside; fits = placed.fits }
 
--- ---- what is told
-
-module _ (name : Option (List ℕ)) (old mid : Logged) (keeps : KeepsHistory old mid) where
-  pub same_refusal : (r : Refusal) → ((ps : List Signature) → base_of (unfolded ps mid) ≡ Err r) → (ps : List Signature) → base_of (unfolded ps old) ≡ Err r
-  same_refusal r h ps = ap base_of (sym (keeps.same ps)) ∙ h ps
-
-  -- the lines follow their number
-  pub told_changes : (a b : CountedLines) (out new : List ℕ) → a.text.items ≡ [] → a.count ≡ 0
-      → ((ps : List Signature) → (base : Contents) × (base_of (unfolded ps mid) ≡ Ok base) × AddsLines (changes_of name base (contents mid.store)) a b)
-      → new ≡ out ++ (codes "changes " ++ decimal b.count ++ 10 ∷ b.text.items)
-      → (ps : List Signature) → TellsChanges name (unfolded ps old) out new
-  told_changes a b out new begun none adds is ps =
-      let x = adds ps in
-      let lines = changes_of name x.0 (contents mid.store) in
-      let text : b.text.items ≡ flat_map (λ l. l) lines = x.2.text ∙ ap (λ l. l ++ flat_map (λ l. l) lines) begun in
-      let count : b.count ≡ length lines = omega (arith, x.2.count, none) in
-      let same : contents mid.store ≡ contents old.store = ap (λ (h : History). h.now) (keeps.same ps) in
-      record {
-        base = x.0;
-        is = ap base_of (sym (keeps.same ps)) ∙ x.1;
-        text =
-            is ∙ (λ k. out ++ (codes "changes " ++ decimal (count k) ++ 10 ∷ text k))
-            ∙ ap (λ c. out ++ diff_text (changes_of name x.0 c)) same;
-      }
-
--- ---- what an open group and the last step give
-
-pub outside_group : (o : Option OpenGroup) (l : List Entry) → None ≡ option_map (λ g. l) o → o ≡ None
-outside_group None l e = refl
-outside_group (Some g) l e = absurd (cc)
+-- ---- what an open group gives
 
 pub inside_group : (o : Option OpenGroup) (l log : List Entry) → Some log ≡ option_map (λ g. l) o → (g : OpenGroup) × (o ≡ Some g) × (log ≡ l)
 inside_group None l log e = absurd (cc)
 inside_group (Some g) l log e = (g, refl, (let is : log ≡ l = cc in is))
-
-pub adds_changes : (name : Option (List ℕ)) (t : Logged) (log : List Entry) (s : Store) (a b : CountedLines) → s ≡ t.store → LeadsToBase log t → AddsLines (log_lines name log s) a b
-    → (ps : List Signature) → (base : Contents) × (base_of (unfolded ps t) ≡ Ok base) × AddsLines (changes_of name base (contents t.store)) a b
-adds_changes name t log s a b same leads adds ps =
-    (contents (before log t.store), leads.base ps, subst (λ x. AddsLines (log_lines name log x) a b) same adds)

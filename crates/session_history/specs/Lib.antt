@@ -7,7 +7,7 @@ pub mod Moving
 pub mod Preview
 pub mod Dump
 pub mod Differences
-pub mod DifferenceLaws
+pub mod Leading
 pub mod Laws
 pub use Rattle.term_core.specs.Tree
 pub use Rattle.term_core.specs.Size

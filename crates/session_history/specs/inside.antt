@@ -2,8 +2,3 @@ pub mod Adding
 pub mod Codes
 pub mod Giving
 pub mod View
-pub mod Sides
-pub mod Lined
-pub mod ReadPatches
-pub mod Told
-pub mod NamedPairs

@@ -3,15 +3,10 @@
 #![tactic(auto)]
 
 mod acts;
-mod diff;
-mod differences;
 mod dump;
 mod finding;
-pub mod laws;
 mod limits;
-mod lines;
 mod modules;
-mod patches;
 mod timeline;
 
 pub use acts::Found;

@@ -18,7 +18,7 @@ ghost use Rattle.session_modules.specs.Kept.{IsCurrent, IsKept};
 ghost use Rattle.session_history.specs.Unfolded.{unfolded, past_contents, later_contents, AllCompact};
 ghost use Rattle.session_history.specs.Differences.{base_of};
 ghost use Rattle.session_history.specs.inside.Adding.{AddsStep};
-ghost use Rattle.session_history.specs.inside.Told.{LeadsToBase};
+ghost use Rattle.session_history.specs.Leading.{LeadsToBase};
 ghost use Rattle.session_history.specs.Moving.{KeepsHistory, Changes, Puts, Moves, Leads, Commits};
 
 use crate::finding::{find_text, find_tree};
@@ -142,8 +142,9 @@ impl Timeline {
         self.logs[self.position - 1].is_empty()
     }
 
-    // The last of the steps to undo. Outside a group it leads back to what `diff` begins with.
-    pub(crate) fn newest(&self) -> Option<&Step>
+    /// The last of the steps to undo, if there is one. Outside a group it leads back to the contents
+    /// before that step.
+    pub fn newest(&self) -> Option<&Step>
         ensures base { self.now.group ≡ None → IfSome result (λ step. LeadsToBase step.now self.now) }
         ensures compact { IfSome result (λ step. IsCompact step.now) }
         ensures none { self.now.group ≡ None → IfNone result ((ps : List Signature)
@@ -155,8 +156,8 @@ impl Timeline {
         Some(&self.logs[self.position - 1])
     }
 
-    // The changes of the open group, if one is open. They lead back to what `diff` begins with.
-    pub(crate) fn group_log(&self) -> Option<&Log>
+    /// The changes of the open group, if one is open. They lead back to the contents where it began.
+    pub fn group_log(&self) -> Option<&Log>
         ensures is { option_copied result ≡ option_map (λ g. self.now.current) self.now.group }
         ensures base { IfSome result (λ log. LeadsToBase log.now self.now) }
     {
@@ -168,7 +169,7 @@ impl Timeline {
 
     /// Compacts the changes of the open group to disjoint places. They lead back to the same
     /// contents. It takes no memory.
-    pub(crate) fn compact_group(&mut self)
+    pub fn compact_group(&mut self)
         ensures same { KeepsHistory self.old self.new }
         ensures store { self.new.store ≡ self.old.store }
         ensures group { self.new.group ≡ self.old.group }

@@ -1,0 +1,2 @@
+pub mod DifferenceLaws
+pub mod inside

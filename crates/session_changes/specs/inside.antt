@@ -1,0 +1,5 @@
+pub mod Sides
+pub mod Lined
+pub mod ReadPatches
+pub mod Told
+pub mod NamedPairs
