@@ -345,7 +345,9 @@ impl Diagnostic {
     }
 
     /// Notes that the bytes since so many say where this is.
-    pub(crate) fn label(&mut self, spot: Spot<'_>, start: usize) {
+    pub(crate) fn label(&mut self, spot: Spot<'_>, start: usize)
+        ensures { (self.new.severity ≡ self.old.severity) × (self.new.code ≡ self.old.code) }
+    {
         let module = match spot.source {
             Source::Command => None,
             Source::Module(name) => Some(self.keep_bytes(name)),
@@ -360,11 +362,15 @@ impl Diagnostic {
     }
 
     /// Notes that the bytes since so many say where the subterm at this path is.
-    pub(crate) fn label_path(&mut self, path: Kept, start: usize) {
+    pub(crate) fn label_path(&mut self, path: Kept, start: usize)
+        ensures { (self.new.severity ≡ self.old.severity) × (self.new.code ≡ self.old.code) }
+    {
         self.push_label(LabelPlace::Tree(path), start);
     }
 
-    fn push_label(&mut self, place: LabelPlace, start: usize) {
+    fn push_label(&mut self, place: LabelPlace, start: usize)
+        ensures { (self.new.severity ≡ self.old.severity) × (self.new.code ≡ self.old.code) }
+    {
         let said = Kept {
             start,
             end: self.text.len(),
@@ -383,7 +389,12 @@ impl Diagnostic {
         }
     }
 
-    pub(crate) fn note_refused(&mut self, refused: bool) {
+    pub(crate) fn note_refused(&mut self, refused: bool)
+        ensures kept { (self.new.severity ≡ self.old.severity) × (self.new.code ≡ self.old.code) }
+        ensures refused { refused ≡ true → self.new.refused ≡ true }
+        ensures earlier { self.old.refused ≡ true → self.new.refused ≡ true }
+        ensures text { self.new.text ≡ self.old.text }
+    {
         self.refused |= refused;
     }
 }

@@ -1,5 +1,7 @@
 //! Lines of a text with a `^` below a place, and quotations.
 
+ghost use Rattle.std.specs.Prelude.{◌≡◌};
+
 use crate::characters::{count_characters, first_characters, last_characters, place_of};
 use crate::diagnostic::{Diagnostic, LineKind};
 
@@ -15,20 +17,26 @@ const BEFORE: usize = 48;
 const CUT: &str = "..";
 
 impl Diagnostic {
-    pub(crate) fn quote(&mut self, bytes: &[u8]) {
+    pub(crate) fn quote(&mut self, bytes: &[u8])
+        ensures { (self.new.severity ≡ self.old.severity) × (self.new.code ≡ self.old.code) }
+    {
         self.words("`");
         self.shown(first_characters(bytes, QUOTED));
         self.words(if bytes.len() > QUOTED { "..`" } else { "`" });
     }
 
     // Begins a quotation. Returns the number of bytes before what is quoted.
-    pub(crate) fn open(&mut self) -> usize {
+    pub(crate) fn open(&mut self) -> usize
+        ensures { (self.new.severity ≡ self.old.severity) × (self.new.code ≡ self.old.code) }
+    {
         self.words("`");
         self.text.len()
     }
 
     // Ends the quotation of what is after so many bytes: of at most 60 bytes, on one line.
-    pub(crate) fn close(&mut self, start: usize) {
+    pub(crate) fn close(&mut self, start: usize)
+        ensures { (self.new.severity ≡ self.old.severity) × (self.new.code ≡ self.old.code) }
+    {
         let length = self.text.len();
         let end = quoted_end(&self.text, start);
         self.text.truncate(end);
@@ -42,7 +50,9 @@ impl Diagnostic {
     }
 
     // Appends these bytes, with a blank for each control character.
-    fn shown(&mut self, bytes: &[u8]) {
+    fn shown(&mut self, bytes: &[u8])
+        ensures { (self.new.severity ≡ self.old.severity) × (self.new.code ≡ self.old.code) }
+    {
         for byte in bytes {
             let refused = self.text.push((*byte).max(b' ')).is_err();
             self.note_refused(refused);
@@ -51,7 +61,9 @@ impl Diagnostic {
 
     /// Adds the line of the place after so many bytes of a text, and below it one with a `^` under the
     /// place.
-    pub fn show(&mut self, text: &[u8], at: usize) {
+    pub fn show(&mut self, text: &[u8], at: usize)
+        ensures { (self.new.severity ≡ self.old.severity) × (self.new.code ≡ self.old.code) }
+    {
         let place = place_of(text, 1, at);
         let before = shown_before(place.before, place.after);
         let is_cut = before.len() < place.before.len();
@@ -68,7 +80,9 @@ impl Diagnostic {
     }
 
     // Nothing is cut where the sign of the cut is as long.
-    fn show_after(&mut self, after: &[u8], most: usize) {
+    fn show_after(&mut self, after: &[u8], most: usize)
+        ensures { (self.new.severity ≡ self.old.severity) × (self.new.code ≡ self.old.code) }
+    {
         if after.len() <= most.saturating_add(CUT.len()) {
             self.shown(after);
         } else {

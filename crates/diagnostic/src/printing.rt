@@ -1,5 +1,7 @@
 //! Short texts of patterns and strategies.
 
+ghost use Rattle.std.specs.Prelude.{◌≡◌};
+
 use crate::diagnostic::Diagnostic;
 use strategy_syntax::{Head, Pattern, PatternForm, Strategy, StrategyForm};
 
@@ -8,7 +10,9 @@ pub const DEEPEST: usize = 4_000;
 
 /// Appends the text of a pattern.
 #[cycle(pattern)]
-pub fn add_pattern(text: &mut Diagnostic, pattern: &Pattern, deep: usize) {
+pub fn add_pattern(text: &mut Diagnostic, pattern: &Pattern, deep: usize)
+    ensures { (text.new.severity ≡ text.old.severity) × (text.new.code ≡ text.old.code) }
+{
     let Some(deep) = deep.checked_sub(1) else {
         return;
     };
@@ -43,7 +47,9 @@ pub fn add_pattern(text: &mut Diagnostic, pattern: &Pattern, deep: usize) {
 }
 
 #[cycle(pattern)]
-fn add_patterns(text: &mut Diagnostic, patterns: &[Pattern], deep: usize) {
+fn add_patterns(text: &mut Diagnostic, patterns: &[Pattern], deep: usize)
+    ensures { (text.new.severity ≡ text.old.severity) × (text.new.code ≡ text.old.code) }
+{
     let mut is_first = true;
     for pattern in patterns {
         if !is_first {
@@ -54,7 +60,9 @@ fn add_patterns(text: &mut Diagnostic, patterns: &[Pattern], deep: usize) {
     }
 }
 
-fn add_opening(text: &mut Diagnostic, head: &Head, count: usize) {
+fn add_opening(text: &mut Diagnostic, head: &Head, count: usize)
+    ensures { (text.new.severity ≡ text.old.severity) × (text.new.code ≡ text.old.code) }
+{
     match head {
         Head::Application(name) => {
             text.name(name);
@@ -79,7 +87,9 @@ fn closing(head: &Head, count: usize) -> &'static str {
 
 /// Appends the front of the text of a strategy, with `..` for what follows, and for what is in
 /// brackets.
-pub fn add_strategy(text: &mut Diagnostic, strategy: &Strategy, deep: usize) {
+pub fn add_strategy(text: &mut Diagnostic, strategy: &Strategy, deep: usize)
+    ensures { (text.new.severity ≡ text.old.severity) × (text.new.code ≡ text.old.code) }
+{
     let Some(deep) = deep.checked_sub(1) else {
         return;
     };

@@ -1,6 +1,8 @@
 //! Sentences, with pieces of a command put into their places. A command's bytes needn't be UTF-8,
 //! so these are no `Display`.
 
+ghost use Rattle.std.specs.Prelude.{◌≡◌, ◌⊎◌, ◌++◌, true};
+
 use crate::diagnostic::{Diagnostic, Kept};
 use crate::printing::{DEEPEST, add_pattern, add_strategy};
 use crate::span::Spot;
@@ -77,30 +79,33 @@ pub enum Fill<'a> {
 
 impl Diagnostic {
     /// Appends these words.
-    pub fn words(&mut self, words: &str) {
+    pub fn words(&mut self, words: &str)
+        ensures kept { (self.new.severity ≡ self.old.severity) × (self.new.code ≡ self.old.code) }
+        ensures appended { (self.new.refused ≡ true) ⊎ (self.new.text.items ≡ self.old.text.items ++ words.now) }
+    {
         self.bytes(words.as_bytes());
     }
 
     /// Appends a sentence, with this in the place of its `{}`.
-    pub fn say_one(&mut self, sentence: &str, first: Fill<'_>) {
+    pub fn say_one(&mut self, sentence: &str, first: Fill<'_>)
+        ensures { (self.new.severity ≡ self.old.severity) × (self.new.code ≡ self.old.code) }
+    {
         let rest = self.say_up_to(sentence, first);
         self.words(rest);
     }
 
     /// The same with two.
-    pub fn say_two(&mut self, sentence: &str, first: Fill<'_>, second: Fill<'_>) {
+    pub fn say_two(&mut self, sentence: &str, first: Fill<'_>, second: Fill<'_>)
+        ensures { (self.new.severity ≡ self.old.severity) × (self.new.code ≡ self.old.code) }
+    {
         let rest = self.say_up_to(sentence, first);
         self.say_one(rest, second);
     }
 
     /// The same with three.
-    pub fn say_three(
-        &mut self,
-        sentence: &str,
-        first: Fill<'_>,
-        second: Fill<'_>,
-        third: Fill<'_>,
-    ) {
+    pub fn say_three(&mut self, sentence: &str, first: Fill<'_>, second: Fill<'_>, third: Fill<'_>)
+        ensures { (self.new.severity ≡ self.old.severity) × (self.new.code ≡ self.old.code) }
+    {
         let rest = self.say_up_to(sentence, first);
         self.say_two(rest, second, third);
     }
@@ -113,13 +118,17 @@ impl Diagnostic {
         second: Fill<'_>,
         third: Fill<'_>,
         fourth: Fill<'_>,
-    ) {
+    )
+        ensures { (self.new.severity ≡ self.old.severity) × (self.new.code ≡ self.old.code) }
+    {
         let rest = self.say_up_to(sentence, first);
         self.say_three(rest, second, third, fourth);
     }
 
     // Appends a sentence up to its first `{}`, and this in the place of that. Returns the rest.
-    fn say_up_to<'s>(&mut self, sentence: &'s str, fill: Fill<'_>) -> &'s str {
+    fn say_up_to<'s>(&mut self, sentence: &'s str, fill: Fill<'_>) -> &'s str
+        ensures { (self.new.severity ≡ self.old.severity) × (self.new.code ≡ self.old.code) }
+    {
         let Some((words, rest)) = sentence.split_once("{}") else {
             return sentence;
         };
@@ -130,7 +139,9 @@ impl Diagnostic {
 
     /// Appends the path that leads from the root to one subterm and on to another, or the front of a
     /// long one. It becomes a label.
-    pub fn path(&mut self, above: &[usize], below: &[usize]) {
+    pub fn path(&mut self, above: &[usize], below: &[usize])
+        ensures { (self.new.severity ≡ self.old.severity) × (self.new.code ≡ self.old.code) }
+    {
         let depth = above.len().saturating_add(below.len());
         let shown = if depth > WHOLE { FRONT } else { WHOLE };
         let start = self.text.len();
@@ -149,7 +160,9 @@ impl Diagnostic {
     }
 
     // Keeps the whole path.
-    fn keep_path(&mut self, above: &[usize], below: &[usize]) -> Kept {
+    fn keep_path(&mut self, above: &[usize], below: &[usize]) -> Kept
+        ensures { (self.new.severity ≡ self.old.severity) × (self.new.code ≡ self.old.code) }
+    {
         let mut buffer = Buffer::new();
         let mut kept = self.keep_bytes(b"");
         if above.is_empty() && below.is_empty() {
@@ -163,7 +176,9 @@ impl Diagnostic {
     }
 
     /// Appends what the root of a term with so many children is.
-    pub fn root(&mut self, kind: Kind<'_>, count: usize) {
+    pub fn root(&mut self, kind: Kind<'_>, count: usize)
+        ensures { (self.new.severity ≡ self.old.severity) × (self.new.code ≡ self.old.code) }
+    {
         let sentence = match kind {
             Kind::Integer(_) => "the integer {}",
             Kind::Application(_) if count > 0 => "{} of {}",
@@ -183,7 +198,9 @@ impl Diagnostic {
         say!(self; sentence, first, terms);
     }
 
-    fn fill(&mut self, fill: Fill<'_>) {
+    fn fill(&mut self, fill: Fill<'_>)
+        ensures { (self.new.severity ≡ self.old.severity) × (self.new.code ≡ self.old.code) }
+    {
         match fill {
             Fill::Words(words) => self.words(words),
             Fill::Bytes(bytes) => self.bytes(bytes),
@@ -223,29 +240,40 @@ impl Diagnostic {
         }
     }
 
-    fn bytes(&mut self, bytes: &[u8]) {
+    fn bytes(&mut self, bytes: &[u8])
+        ensures kept { (self.new.severity ≡ self.old.severity) × (self.new.code ≡ self.old.code) }
+        ensures appended { (self.new.refused ≡ true) ⊎ (self.new.text.items ≡ self.old.text.items ++ bytes.now) }
+    {
         let refused = self.text.extend_from_slice(bytes).is_err();
         self.note_refused(refused);
     }
 
     /// Appends a name as it is printed.
-    pub fn name(&mut self, name: &Name) {
+    pub fn name(&mut self, name: &Name)
+        ensures { (self.new.severity ≡ self.old.severity) × (self.new.code ≡ self.old.code) }
+    {
         let refused = print_name(name, &mut self.text).is_err();
         self.note_refused(refused);
     }
 
     /// Appends an integer.
-    pub fn integer(&mut self, value: i64) {
+    pub fn integer(&mut self, value: i64)
+        ensures { (self.new.severity ≡ self.old.severity) × (self.new.code ≡ self.old.code) }
+    {
         self.words(Buffer::new().format(value));
     }
 
     /// Appends these words and a number.
-    pub fn number(&mut self, before: &str, number: u64) {
+    pub fn number(&mut self, before: &str, number: u64)
+        ensures { (self.new.severity ≡ self.old.severity) × (self.new.code ≡ self.old.code) }
+    {
         self.words(before);
         self.words(Buffer::new().format(number));
     }
 
-    fn count(&mut self, number: u64, name: &str) {
+    fn count(&mut self, number: u64, name: &str)
+        ensures { (self.new.severity ≡ self.old.severity) × (self.new.code ≡ self.old.code) }
+    {
         let (stem, ending) = match name.strip_suffix("y") {
             _ if number == 1 => (name, ""),
             Some(stem) => (stem, "ies"),
