@@ -120,10 +120,11 @@ export function leaveAddress() {
 
 /** Has the address say what is there. Resolves to whether it could be that long. */
 export async function writeAddress() {
+  const { opened } = page;
   const hash = await written(stateNow());
   if (hash.length > LONGEST) return false;
-  // another address was entered, and is about to be opened
-  if (location.hash !== page.hash) return true;
+  // another address was entered meanwhile, and is about to be opened, or is open
+  if (location.hash !== page.hash || page.opened !== opened) return true;
   page.hash = hash;
   history.replaceState(null, '', hash);
   return true;

@@ -591,6 +591,34 @@ def try_address_in_mid_run(page):
     has(page.shown("#dump"), "tree left ")
 
 
+# Packing an address waits until it is let go on.
+HELD = """const Deflated = CompressionStream;
+window.held = {begun: 0, ended: 0};
+const goes = new Promise(done => { window.held.go = done; });
+window.CompressionStream = class {
+  constructor(kind) {
+    const packed = new Deflated(kind);
+    window.held.begun++;
+    const waits = new TransformStream({async flush() { await goes; setTimeout(() => window.held.ended++); }});
+    return {writable: packed.writable, readable: packed.readable.pipeThrough(waits)};
+  }
+};"""
+
+
+def try_address_packed_late(page):
+    """What the address was about to say doesn't take the place of an address that is opened meanwhile."""
+    page.js(HELD)
+    page.strategy("id; id")
+    page.until(lambda: page.js("return window.held.begun") == 1, "the address is being packed")
+    page.js("location.hash = '#example=polynomials'")
+    page.until(lambda: page.texts("#tree-tabs button")[:1] == ["left"], "the example is opened")
+    page.until_idle()
+    page.js("window.held.go()")
+    page.until(lambda: page.js("return window.held.ended") == 1, "the address is packed")
+    same(page.js("return location.hash"), "#example=polynomials")
+    same(page.shown("#share").partition("#")[2][:2], "z=")
+
+
 def try_damaged_addresses(page):
     """An address that holds no case opens the page with a sentence."""
     page.apply("all(!1)")
