@@ -1,15 +1,13 @@
-"""The types of the client, where mypy is at hand."""
+"""The types of the client, by mypy, which is installed where that can be done."""
 
 import shutil
 import subprocess
 
-from packages import left_out
+from packages import installed
 
 
 def tests(top, everything):
-    mypy = shutil.which("mypy")
-    if mypy is None:
-        left_out("mypy --strict", "there is no mypy")
+    if not shutil.which("mypy") and installed("mypy"):
         return
-    ran = subprocess.run([mypy, "--strict", "--cache-dir=/dev/null", "stratbench"], cwd=f"{top}/clients/python", capture_output=True, text=True)
+    ran = subprocess.run(["mypy", "--strict", "--cache-dir=/dev/null", "stratbench"], cwd=f"{top}/clients/python", capture_output=True, text=True)
     yield "mypy --strict", "" if ran.returncode == 0 else ran.stdout

@@ -109,7 +109,10 @@ class Session:
 
         def give(bench: Stratbench, it: Loaded) -> None:
             with _of_file([it]):
-                (bench.tree if it.kind == "tree" else bench.module)(it.name, it.text)
+                if it.kind == "tree":
+                    bench.tree(it.name, it.text)
+                else:
+                    bench.module(it.name, it.text)
             said.extend((f"{it.file}: {warning}" if it.file else warning, it.text, warning.place) for warning in bench.warnings)
 
         def give_all(bench: Stratbench) -> None:
