@@ -2,12 +2,14 @@
 #![tactic(auto, using(crate::proofs::KindLemmas::node_parts))]
 
 ghost use Rattle.std.specs.Prelude.{◌≡◌, [], ◌∷◌, ◌++◌, ◌≤◌, ◌<◌, ◌↔◌, IsTrue, length, drop, map, IfOk, IfSome, MatchOption, slice_get, Some, None};
+ghost use Rattle.std.specs.Bool.{OnFalse};
 ghost use Rattle.term_core.specs.Tree.{children, annotations};
 ghost use Rattle.term_core.specs.Kind.{made_of};
 ghost use Rattle.term_changes.specs.Standing.{after, standing_tree};
 ghost use Rattle.term_values.specs.inside.ValueView.{items_list, front_list, annotation_list};
 ghost use Rattle.term_values.specs.inside.Bounded.{Bounded};
-ghost use Rattle.term_values.specs.inside.Walk.{seen_tree, run_list};
+ghost use Rattle.term_values.specs.Seen.{seen_tree};
+ghost use Rattle.term_values.specs.inside.Walk.{run_list};
 
 use crate::bounds::Bounds;
 use crate::part::{Changed, Part, PartForm};
@@ -15,9 +17,9 @@ use crate::value::{Annotations, Form, Front, Items, Joined, Value};
 use std::marker::Model;
 use term_core::{Kind, NoMemory, Term};
 
-/// A tree that a walk visits.
+/// A tree that a walk visits, without a holder of its own.
 #[derive(Clone, Copy)]
-pub(crate) enum Seen<'a, 't> {
+pub enum Seen<'a, 't> {
     Term(&'t Term),
     Value(&'a Value<'t>),
     Part(&'a Part<'t>),
@@ -35,7 +37,7 @@ pub(crate) enum Run<'a, 't> {
 /// The trees of a run, followed by the children of the value after it. An empty run has no value
 /// after it.
 #[derive(Drop)]
-pub(crate) struct Elements<'a, 't> {
+pub struct Elements<'a, 't> {
     run: Run<'a, 't>,
     after: Option<&'a Value<'t>>,
 }
@@ -58,8 +60,9 @@ impl<'a, 't> Model for Elements<'a, 't> {
 }
 
 impl<'a, 't> Seen<'a, 't> {
+    /// What its root is.
     #[inline(always)]
-    pub(crate) fn kind(self) -> Kind<'a>
+    pub fn kind(self) -> Kind<'a>
         ensures { seen_tree self.entry
             ≡ made_of result (children (seen_tree self.entry)) (annotations (seen_tree self.entry)) }
     {
@@ -70,8 +73,9 @@ impl<'a, 't> Seen<'a, 't> {
         }
     }
 
+    /// Its children.
     #[inline(always)]
-    pub(crate) fn elements(self) -> Elements<'a, 't>
+    pub fn elements(self) -> Elements<'a, 't>
         ensures { result ≡ children (seen_tree self.entry) }
     {
         let terms = match self {
@@ -88,6 +92,14 @@ impl<'a, 't> Seen<'a, 't> {
         Elements::alone(self.annotation_run())
     }
 
+    /// Whether it has annotations.
+    #[inline(always)]
+    pub fn is_annotated(self) -> bool
+        ensures { OnFalse result (annotations (seen_tree self.entry) ≡ []) }
+    {
+        !self.annotation_run().is_empty()
+    }
+
     /// The annotations as a run.
     pub(crate) fn annotation_run(self) -> Run<'a, 't>
         ensures { run_list result ≡ annotations (seen_tree self.entry) }
@@ -100,7 +112,7 @@ impl<'a, 't> Seen<'a, 't> {
     }
 
     /// The term, if it is a subterm of the borrowed term.
-    pub(crate) fn term(self) -> Option<&'t Term>
+    pub fn term(self) -> Option<&'t Term>
         ensures { IfSome result (λ term. term.now ≡ seen_tree self.entry) }
     {
         match self {
@@ -138,6 +150,14 @@ impl<'a, 't> Seen<'a, 't> {
 }
 
 impl<'t> Part<'t> {
+    /// The tree, to be visited.
+    #[inline(always)]
+    pub fn seen(&self) -> Seen<'_, 't>
+        ensures { seen_tree result ≡ standing_tree self.now }
+    {
+        Seen::Part(self)
+    }
+
     fn elements(&self) -> Elements<'_, 't>
         ensures { result ≡ children (standing_tree self.now) }
     {
@@ -247,7 +267,7 @@ impl<'a, 't> Elements<'a, 't> {
     }
 
     /// Tree `i`, counted from 0.
-    pub(crate) fn nth(self, i: usize) -> Option<Seen<'a, 't>>
+    pub fn nth(self, i: usize) -> Option<Seen<'a, 't>>
         ensures { MatchOption result (slice_get self.entry i ≡ None)
             (λ seen. slice_get self.entry i ≡ Some (seen_tree seen)) }
     {
@@ -269,7 +289,7 @@ impl<'a, 't> Elements<'a, 't> {
     }
 
     /// The next tree.
-    pub(crate) fn next(&mut self) -> Option<Seen<'a, 't>>
+    pub fn next(&mut self) -> Option<Seen<'a, 't>>
         ensures { MatchOption result ((self.old ≡ []) × (self.new ≡ []))
             (λ seen. self.old ≡ seen_tree seen ∷ self.new) }
     {

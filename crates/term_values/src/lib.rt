@@ -16,5 +16,6 @@ mod patches;
 mod places;
 mod value;
 
+pub use elements::{Elements, Seen};
 pub use part::Part;
 pub use value::Value;

@@ -6,7 +6,7 @@ ghost use Rattle.term_core.specs.Tree.{of_list};
 ghost use Rattle.term_core.specs.Size.{size as size_of, sizes, fits};
 ghost use Rattle.term_core.specs.declared.TheConstants.{MAX_ROOM};
 ghost use Rattle.term_values.specs.inside.Bounded.{Measures, MeasuresAll};
-ghost use Rattle.term_values.specs.inside.Walk.{seen_tree};
+ghost use Rattle.term_values.specs.Seen.{seen_tree};
 
 use crate::bounds::Bounds;
 use crate::elements::{Elements, Seen};

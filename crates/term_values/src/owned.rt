@@ -5,7 +5,7 @@ ghost use Rattle.std.specs.Prelude.{◌≡◌, ◌<◌, ◌++◌, ◌∷◌, [],
 ghost use Rattle.term_core.specs.Tree.{Tree};
 ghost use Rattle.term_core.specs.Kind.{made_of};
 ghost use Rattle.term_values.specs.inside.ValueView.{top_tree};
-ghost use Rattle.term_values.specs.inside.Walk.{seen_tree};
+ghost use Rattle.term_values.specs.Seen.{seen_tree};
 
 use crate::elements::{Elements, Run, Seen};
 use crate::value::{Form, Top, Value};

@@ -4,16 +4,9 @@ use Rattle.std.specs.declared.option.Option.{Option}
 use denote.Ref.{Bor}
 use Rattle.term_core.specs.Tree.{Tree, children}
 use Rattle.term_changes.specs.Standing.{standing_tree}
-use Rattle.term_values.specs.declared.elements.Seen.{Seen}
-use Rattle.term_values.specs.declared.elements.Seen.TheVariants as seen
 use Rattle.term_values.specs.declared.elements.Run.{Run}
 use Rattle.term_values.specs.declared.elements.Run.TheVariants as run
 use Rattle.term_values.specs.declared.elements.Elements.TheInside.{Inside as ElementsFields}
-
-abbrev pub seen_tree : Seen → Tree
-seen_tree (seen.Term t) = t.now
-seen_tree (seen.Value v) = v.now
-seen_tree (seen.Part p) = standing_tree p.now
 
 abbrev pub run_list : Run → List Tree
 run_list run.Empty = []

@@ -2,7 +2,7 @@ use Rattle.std.proofs.Common.{arith, ◌∷◌, ◌++◌, [], ap, sym, ◌∙◌
 use Rattle.term_core.specs.Tree.{of_list}
 use Rattle.term_core.specs.Size.{size, sizes, height, heights}
 use Rattle.term_core.proofs.TreeLemmas.{size_pos}
-use Rattle.term_values.specs.inside.Walk.{seen_tree}
+use Rattle.term_values.specs.Seen.{seen_tree}
 use Rattle.term_values.specs.inside.ValueFalls.{sizes-append, size_parts}
 use Rattle.term_values.proofs.SizeLemmas.{member_size, all_bounded_more, node_bounded}
 use Rattle.term_values.proofs.measure.+measured.Goals as goal

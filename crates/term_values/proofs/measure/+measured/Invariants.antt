@@ -2,7 +2,7 @@ use Rattle.std.proofs.Common.{◌≡◌, ◌+◌, ◌*◌, ◌++◌, length, Lis
 use Rattle.term_core.specs.Tree.{Tree, of_list}
 use Rattle.term_core.specs.Size.{size, sizes}
 use Rattle.term_values.specs.inside.Bounded.{MeasuresAll}
-use Rattle.term_values.specs.inside.Walk.{seen_tree}
+use Rattle.term_values.specs.Seen.{seen_tree}
 use Rattle.term_values.proofs.measure.+measured.Given as goal
 
 abbrev pub decreases-measured_within : goal.decreases-measured_within

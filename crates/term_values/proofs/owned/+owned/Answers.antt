@@ -1,5 +1,5 @@
 use Rattle.std.proofs.Common.{arith, ◌++◌, ap, sym, ◌∙◌}
-use Rattle.term_values.specs.inside.Walk.{seen_tree}
+use Rattle.term_values.specs.Seen.{seen_tree}
 use Rattle.term_values.proofs.SizeLemmas.{member_size}
 use Rattle.term_values.proofs.owned.+owned.Goals as goal
 

@@ -1,7 +1,7 @@
 use Rattle.std.proofs.Common.{◌≡◌, ◌+◌, ◌*◌, ◌++◌, length}
 use Rattle.term_core.specs.Tree.{of_list}
 use Rattle.term_core.specs.Size.{size, sizes}
-use Rattle.term_values.specs.inside.Walk.{seen_tree}
+use Rattle.term_values.specs.Seen.{seen_tree}
 use Rattle.term_values.proofs.owned.+owned.Given as goal
 
 abbrev pub decreases-owned : goal.decreases-owned

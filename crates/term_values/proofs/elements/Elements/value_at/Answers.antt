@@ -1,4 +1,4 @@
-use Rattle.term_values.specs.inside.Walk.{seen_tree}
+use Rattle.term_values.specs.Seen.{seen_tree}
 use Rattle.term_values.proofs.SizeLemmas.{got_within}
 use Rattle.term_values.proofs.elements.Elements.value_at.Goals as goal
 

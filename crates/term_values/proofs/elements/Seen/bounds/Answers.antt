@@ -1,5 +1,5 @@
 use Rattle.term_core.specs.Size.{height, size}
-use Rattle.term_values.specs.inside.Walk.{seen_tree}
+use Rattle.term_values.specs.Seen.{seen_tree}
 use Rattle.term_values.proofs.elements.Seen.bounds.Goals as goal
 
 pub returns-in-Term : goal.returns-in-Term
