@@ -86,10 +86,27 @@ impl<'a, 't> Seen<'a, 't> {
         Elements::alone(terms)
     }
 
-    pub(crate) fn annotations(self) -> Elements<'a, 't>
+    /// Its annotations.
+    pub fn annotations(self) -> Elements<'a, 't>
         ensures { result ≡ annotations (seen_tree self.entry) }
     {
         Elements::alone(self.annotation_run())
+    }
+
+    /// Child `i`, counted from 0, or `None` if there is none.
+    #[inline(always)]
+    pub fn child(self, i: usize) -> Option<Seen<'a, 't>>
+        ensures { MatchOption result (slice_get (children (seen_tree self.entry)) i ≡ None)
+            (λ seen. slice_get (children (seen_tree self.entry)) i ≡ Some (seen_tree seen)) }
+    {
+        self.elements().nth(i)
+    }
+
+    /// A holder of the tree. It takes no memory.
+    pub fn share(self) -> Result<Value<'t>, NoMemory>
+        ensures { IfOk result (λ value. value ≡ seen_tree self.entry) }
+    {
+        self.value(Bounds::unknown())
     }
 
     /// Whether it has annotations.
@@ -360,6 +377,14 @@ impl<'t> Changed<'t> {
 }
 
 impl<'t> Value<'t> {
+    /// The tree, to be visited.
+    #[inline(always)]
+    pub fn seen(&self) -> Seen<'_, 't>
+        ensures { seen_tree result ≡ self.now }
+    {
+        Seen::Value(self)
+    }
+
     /// The children.
     pub(crate) fn elements(&self) -> Elements<'_, 't>
         ensures { result ≡ children self.now }
