@@ -6,6 +6,7 @@ mod nothing;
 mod primitive;
 pub mod standard;
 mod table;
+mod values;
 
 pub use meaning::{BoxedOperation, Meaning, Operation};
 pub use nothing::{NoOperation, NoPrimitives};
@@ -15,3 +16,4 @@ pub use standard::{
     standard_primitives, strcat, string_to_int, strlen, subti,
 };
 pub use table::Primitives;
+pub use values::{as_value, own_terms};

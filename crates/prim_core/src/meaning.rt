@@ -4,8 +4,10 @@ ghost use Rattle.std.specs.Prelude.{◌≡◌, ℕ, List, IfOk, Ok, Some};
 ghost use Rattle.std.specs.declared.option.Option.{Option};
 ghost use Rattle.term_core.specs.Tree.{Tree};
 
+use crate::values::{as_value, own_terms};
 use std::alloc::Global;
 use term_core::{NoMemory, Term};
+use term_values::Value;
 
 /// The meaning of primitives: from a name and a list of terms to a term, or to nothing.
 pub trait Meaning {
@@ -23,7 +25,8 @@ pub trait Operation: Drop {
     // whether this may be its answer on them
     ghost answers: { Self → List Tree → Option Tree → Type 0 };
 
-    fn run(&self, alloc: Global, arguments: &[Term]) -> Result<Option<Term>, NoMemory>
+    /// Its answer on these terms, which may share with them.
+    fn run<'t>(&self, alloc: Global, arguments: &[Value<'t>]) -> Result<Option<Value<'t>>, NoMemory>
         requires { may_run self.now arguments.now }
         ensures { IfOk result (answers self.now arguments.now) };
 }
@@ -38,7 +41,13 @@ impl Operation for BoxedOperation {
     ghost answers = { λ f terms found. (alloc : _) × (lent : _) × (lent.now ≡ terms)
         × BoxedOperation.post f alloc lent (Ok found) };
 
-    fn run(&self, alloc: Global, arguments: &[Term]) -> Result<Option<Term>, NoMemory> {
-        self(alloc, arguments)
+    fn run<'t>(
+        &self,
+        alloc: Global,
+        arguments: &[Value<'t>],
+    ) -> Result<Option<Value<'t>>, NoMemory> {
+        let terms = own_terms(alloc, arguments)?;
+        let found = self(alloc, terms.as_slice())?;
+        as_value(alloc, found)
     }
 }

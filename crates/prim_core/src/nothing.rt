@@ -2,7 +2,8 @@
 
 use crate::{Meaning, Operation};
 use std::alloc::Global;
-use term_core::{NoMemory, Term};
+use term_core::NoMemory;
+use term_values::Value;
 
 /// The meaning of a host without primitives: no name means anything.
 pub struct NoPrimitives;
@@ -26,7 +27,11 @@ impl Operation for NoOperation {
 
     ghost answers = { λ operation arguments found. found ≡ None };
 
-    fn run(&self, _alloc: Global, _arguments: &[Term]) -> Result<Option<Term>, NoMemory> {
+    fn run<'t>(
+        &self,
+        _alloc: Global,
+        _arguments: &[Value<'t>],
+    ) -> Result<Option<Value<'t>>, NoMemory> {
         Ok(None)
     }
 }

@@ -7,7 +7,8 @@ ghost use Rattle.prim_core.specs.Computes.{Computes};
 use crate::{Meaning, Operation};
 use std::alloc::Global;
 use std::marker::Model;
-use term_core::{NoMemory, Term};
+use term_core::NoMemory;
+use term_values::Value;
 
 /// An operation with its name and the number of its arguments.
 #[derive(Drop)]
@@ -60,7 +61,11 @@ impl<M: Meaning> Primitive<M> {
     }
 
     /// What its name means on these terms, as many as it takes.
-    pub(crate) fn call(&self, alloc: Global, arguments: &[Term]) -> Result<Option<Term>, NoMemory>
+    pub(crate) fn call<'t>(
+        &self,
+        alloc: Global,
+        arguments: &[Value<'t>],
+    ) -> Result<Option<Value<'t>>, NoMemory>
         requires { length arguments.now ≡ self.now.arity }
         ensures { IfOk result (λ found. found ≡ M.meaning self.now.name arguments.now) }
     {

@@ -6,7 +6,8 @@ ghost use Rattle.prim_core.specs.Signature.{index_of};
 use crate::{Meaning, Primitive};
 use std::alloc::Global;
 use std::marker::Model;
-use term_core::{NoMemory, Term};
+use term_core::NoMemory;
+use term_values::Value;
 
 /// The primitives of a host. Contracts see the list of their names and arities.
 #[derive(Drop)]
@@ -49,12 +50,12 @@ impl<M: Meaning> Primitives<M> {
     }
 
     /// What the name of the primitive at `index` means on these terms, as many as it takes.
-    pub fn call(
+    pub fn call<'t>(
         &self,
         alloc: Global,
         index: usize,
-        arguments: &[Term],
-    ) -> Result<Option<Term>, NoMemory>
+        arguments: &[Value<'t>],
+    ) -> Result<Option<Value<'t>>, NoMemory>
         requires { IsSomeAnd (slice_get self.now index)
             (λ primitive. length arguments.now ≡ primitive.arity) }
         ensures { IfOk result (λ found. IfSome (slice_get self.now index)

@@ -3,7 +3,8 @@ use Rattle.std.specs.Prelude.{ℕ, List, [], ◌∷◌, ◌++◌, codes}
 use Rattle.prim_core.specs.Signature.{Signature}
 use Rattle.prim_core.specs.StandardTable.{standard_signatures}
 use Rattle.prim_extended.specs.declared.operations.ExtendedOperation.{ExtendedOperation}
-use Rattle.prim_extended.specs.declared.operations.ExtendedOperation.TheVariants.{Addi, Subti, Muli, Divi, Gti, Strcat, Strlen, IntToString, StringToInt, ExplodeString, ImplodeString, Gts, Modi, StripAnnos, EqIgnoreAnnos, ExplodeTerm, Mkterm, GreatestNumber, Compare}
+use Rattle.prim_extended.specs.declared.operations.ExtendedOperation.TheVariants.{OnTerms, Compare}
+use Rattle.prim_extended.specs.declared.operations.TermOperation.TheVariants.{Addi, Subti, Muli, Divi, Gti, Strcat, Strlen, IntToString, StringToInt, ExplodeString, ImplodeString, Gts, Modi, StripAnnos, EqIgnoreAnnos, ExplodeTerm, Mkterm, GreatestNumber}
 
 abbrev signature : List ℕ → ℕ → Signature
 signature name arity = record { name = name; arity = arity }
@@ -20,43 +21,43 @@ extended_signatures = standard_signatures
 -- ---- each as a value
 
 abbrev pub name_of : ExtendedOperation → List ℕ
-name_of Addi = codes "addi"
-name_of Subti = codes "subti"
-name_of Muli = codes "muli"
-name_of Divi = codes "divi"
-name_of Gti = codes "gti"
-name_of Strcat = codes "strcat"
-name_of Strlen = codes "strlen"
-name_of IntToString = codes "int-to-string"
-name_of StringToInt = codes "string-to-int"
-name_of ExplodeString = codes "explode-string"
-name_of ImplodeString = codes "implode-string"
-name_of Gts = codes "gts"
-name_of Modi = codes "modi"
-name_of StripAnnos = codes "strip-annos"
-name_of EqIgnoreAnnos = codes "eq-ignore-annos"
-name_of ExplodeTerm = codes "explode-term"
-name_of Mkterm = codes "mkterm"
-name_of GreatestNumber = codes "greatest-number"
+name_of (OnTerms Addi) = codes "addi"
+name_of (OnTerms Subti) = codes "subti"
+name_of (OnTerms Muli) = codes "muli"
+name_of (OnTerms Divi) = codes "divi"
+name_of (OnTerms Gti) = codes "gti"
+name_of (OnTerms Strcat) = codes "strcat"
+name_of (OnTerms Strlen) = codes "strlen"
+name_of (OnTerms IntToString) = codes "int-to-string"
+name_of (OnTerms StringToInt) = codes "string-to-int"
+name_of (OnTerms ExplodeString) = codes "explode-string"
+name_of (OnTerms ImplodeString) = codes "implode-string"
+name_of (OnTerms Gts) = codes "gts"
+name_of (OnTerms Modi) = codes "modi"
+name_of (OnTerms StripAnnos) = codes "strip-annos"
+name_of (OnTerms EqIgnoreAnnos) = codes "eq-ignore-annos"
+name_of (OnTerms ExplodeTerm) = codes "explode-term"
+name_of (OnTerms Mkterm) = codes "mkterm"
+name_of (OnTerms GreatestNumber) = codes "greatest-number"
 name_of Compare = codes "compare"
 
 abbrev pub arity_of : ExtendedOperation → ℕ
-arity_of Addi = 2
-arity_of Subti = 2
-arity_of Muli = 2
-arity_of Divi = 2
-arity_of Gti = 2
-arity_of Strcat = 2
-arity_of Strlen = 1
-arity_of IntToString = 1
-arity_of StringToInt = 1
-arity_of ExplodeString = 1
-arity_of ImplodeString = 1
-arity_of Gts = 2
-arity_of Modi = 2
-arity_of StripAnnos = 1
-arity_of EqIgnoreAnnos = 2
-arity_of ExplodeTerm = 1
-arity_of Mkterm = 2
-arity_of GreatestNumber = 2
+arity_of (OnTerms Addi) = 2
+arity_of (OnTerms Subti) = 2
+arity_of (OnTerms Muli) = 2
+arity_of (OnTerms Divi) = 2
+arity_of (OnTerms Gti) = 2
+arity_of (OnTerms Strcat) = 2
+arity_of (OnTerms Strlen) = 1
+arity_of (OnTerms IntToString) = 1
+arity_of (OnTerms StringToInt) = 1
+arity_of (OnTerms ExplodeString) = 1
+arity_of (OnTerms ImplodeString) = 1
+arity_of (OnTerms Gts) = 2
+arity_of (OnTerms Modi) = 2
+arity_of (OnTerms StripAnnos) = 1
+arity_of (OnTerms EqIgnoreAnnos) = 2
+arity_of (OnTerms ExplodeTerm) = 1
+arity_of (OnTerms Mkterm) = 2
+arity_of (OnTerms GreatestNumber) = 2
 arity_of Compare = 2

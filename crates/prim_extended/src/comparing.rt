@@ -1,21 +1,21 @@
 //! The order on terms as a primitive.
 
-ghost use Rattle.std.specs.Prelude.{◌≡◌, length, IfOk, codes};
+ghost use Rattle.std.specs.Prelude.{◌≡◌, length, Some, codes};
 ghost use Rattle.prim_extended.specs.Comparing.{sign};
 ghost use Rattle.prim_extended.specs.Extended.{extended};
 
-use std::alloc::Global;
 use std::cmp::Ordering;
-use term_core::{NoMemory, Term};
+use term_core::Kind;
+use term_values::Value;
 
 /// `compare`: -1, 0 or 1 where the term a comes before the term b in the order on terms, is equal to
 /// it, or comes after it.
-pub fn compare(alloc: Global, arguments: &[Term]) -> Result<Option<Term>, NoMemory>
+pub fn compare<'t>(arguments: &[Value<'t>]) -> Value<'t>
     requires { length arguments.now ≡ 2 }
-    ensures { IfOk result (λ found. found ≡ extended (codes "compare") arguments.now) }
+    ensures { Some result ≡ extended (codes "compare") arguments.now }
 {
-    let order = term_order::compare(&arguments[0], &arguments[1]);
-    Ok(Some(Term::integer(alloc, sign(order))))
+    let order = term_order::compare(arguments[0].seen(), arguments[1].seen());
+    Value::leaf(Kind::Integer(sign(order)))
 }
 
 fn sign(order: Ordering) -> i64

@@ -18,5 +18,5 @@ pub use comparing::compare;
 pub use constructors::{explode_term, mkterm};
 pub use greatest::greatest_number;
 pub use integers::modi;
-pub use operations::{Extended, ExtendedOperation, extended_primitives};
+pub use operations::{Extended, ExtendedOperation, TermOperation, extended_primitives};
 pub use strings::{explode_string, gts, implode_string};

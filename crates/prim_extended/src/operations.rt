@@ -2,6 +2,7 @@
 
 ghost use Rattle.std.specs.Prelude.{◌≡◌, ◌++◌, ◌∷◌, [], length, IfOk, OnOk};
 ghost use Rattle.prim_extended.specs.Extended.{extended};
+ghost use Rattle.prim_extended.specs.declared.operations.ExtendedOperation.TheVariants.{OnTerms};
 ghost use Rattle.prim_extended.specs.ExtendedTable.{arity_of, extended_signatures, name_of};
 
 use crate::annotations::{eq_ignore_annos, strip_annos};
@@ -11,15 +12,24 @@ use crate::greatest::greatest_number;
 use crate::integers::modi;
 use crate::strings::{explode_string, gts, implode_string};
 use prim_core::{
-    Meaning, Operation, Primitive, addi, divi, gti, int_to_string, muli, strcat, string_to_int,
-    strlen, subti,
+    Meaning, Operation, Primitive, addi, as_value, divi, gti, int_to_string, muli, own_terms,
+    strcat, string_to_int, strlen, subti,
 };
 use std::alloc::Global;
 use term_core::{NoMemory, Term};
+use term_values::Value;
 
-/// One of the extended primitives, by its name.
+/// One of the extended primitives, by its name. The first ones take owned terms; `compare` looks at
+/// values, and takes no copies.
 #[derive(Clone, Copy, Debug, Drop)]
 pub enum ExtendedOperation {
+    OnTerms(TermOperation),
+    Compare,
+}
+
+/// One of the primitives that take owned terms.
+#[derive(Clone, Copy, Debug, Drop)]
+pub enum TermOperation {
     Addi,
     Subti,
     Muli,
@@ -38,12 +48,12 @@ pub enum ExtendedOperation {
     ExplodeTerm,
     Mkterm,
     GreatestNumber,
-    Compare,
 }
 
-use ExtendedOperation::{
-    Addi, Compare, Divi, EqIgnoreAnnos, ExplodeString, ExplodeTerm, GreatestNumber, Gti, Gts,
-    ImplodeString, IntToString, Mkterm, Modi, Muli, Strcat, StringToInt, StripAnnos, Strlen, Subti,
+use ExtendedOperation::{Compare, OnTerms};
+use TermOperation::{
+    Addi, Divi, EqIgnoreAnnos, ExplodeString, ExplodeTerm, GreatestNumber, Gti, Gts, ImplodeString,
+    IntToString, Mkterm, Modi, Muli, Strcat, StringToInt, StripAnnos, Strlen, Subti,
 };
 
 impl Operation for ExtendedOperation {
@@ -51,7 +61,26 @@ impl Operation for ExtendedOperation {
 
     ghost answers = { λ operation terms found. found ≡ extended (name_of operation) terms };
 
-    fn run(&self, alloc: Global, arguments: &[Term]) -> Result<Option<Term>, NoMemory> {
+    fn run<'t>(
+        &self,
+        alloc: Global,
+        arguments: &[Value<'t>],
+    ) -> Result<Option<Value<'t>>, NoMemory> {
+        match self {
+            OnTerms(operation) => {
+                let terms = own_terms(alloc, arguments)?;
+                as_value(alloc, operation.run(alloc, &terms)?)
+            }
+            Compare => Ok(Some(compare(arguments))),
+        }
+    }
+}
+
+impl TermOperation {
+    fn run(&self, alloc: Global, arguments: &[Term]) -> Result<Option<Term>, NoMemory>
+        requires { length arguments.now ≡ arity_of (OnTerms self.now) }
+        ensures { IfOk result (λ found. found ≡ extended (name_of (OnTerms self.now)) arguments.now) }
+    {
         match self {
             Addi => addi(alloc, arguments),
             Subti => subti(alloc, arguments),
@@ -71,7 +100,6 @@ impl Operation for ExtendedOperation {
             ExplodeTerm => explode_term(alloc, arguments),
             Mkterm => mkterm(alloc, arguments),
             GreatestNumber => greatest_number(alloc, arguments),
-            Compare => compare(alloc, arguments),
         }
     }
 }
@@ -92,24 +120,24 @@ pub fn extended_primitives(alloc: Global) -> Result<Vec<Primitive<Extended>>, No
     ensures { IfOk result (λ primitives. primitives.items ≡ extended_signatures) }
 {
     let mut primitives = Vec::new(alloc);
-    add(alloc, &mut primitives, b"addi", 2, Addi)?;
-    add(alloc, &mut primitives, b"subti", 2, Subti)?;
-    add(alloc, &mut primitives, b"muli", 2, Muli)?;
-    add(alloc, &mut primitives, b"divi", 2, Divi)?;
-    add(alloc, &mut primitives, b"gti", 2, Gti)?;
-    add(alloc, &mut primitives, b"strcat", 2, Strcat)?;
-    add(alloc, &mut primitives, b"strlen", 1, Strlen)?;
-    add(alloc, &mut primitives, b"int-to-string", 1, IntToString)?;
-    add(alloc, &mut primitives, b"string-to-int", 1, StringToInt)?;
-    add(alloc, &mut primitives, b"explode-string", 1, ExplodeString)?;
-    add(alloc, &mut primitives, b"implode-string", 1, ImplodeString)?;
-    add(alloc, &mut primitives, b"gts", 2, Gts)?;
-    add(alloc, &mut primitives, b"modi", 2, Modi)?;
-    add(alloc, &mut primitives, b"strip-annos", 1, StripAnnos)?;
-    add(alloc, &mut primitives, b"eq-ignore-annos", 2, EqIgnoreAnnos)?;
-    add(alloc, &mut primitives, b"explode-term", 1, ExplodeTerm)?;
-    add(alloc, &mut primitives, b"mkterm", 2, Mkterm)?;
-    add(
+    add_on_terms(alloc, &mut primitives, b"addi", 2, Addi)?;
+    add_on_terms(alloc, &mut primitives, b"subti", 2, Subti)?;
+    add_on_terms(alloc, &mut primitives, b"muli", 2, Muli)?;
+    add_on_terms(alloc, &mut primitives, b"divi", 2, Divi)?;
+    add_on_terms(alloc, &mut primitives, b"gti", 2, Gti)?;
+    add_on_terms(alloc, &mut primitives, b"strcat", 2, Strcat)?;
+    add_on_terms(alloc, &mut primitives, b"strlen", 1, Strlen)?;
+    add_on_terms(alloc, &mut primitives, b"int-to-string", 1, IntToString)?;
+    add_on_terms(alloc, &mut primitives, b"string-to-int", 1, StringToInt)?;
+    add_on_terms(alloc, &mut primitives, b"explode-string", 1, ExplodeString)?;
+    add_on_terms(alloc, &mut primitives, b"implode-string", 1, ImplodeString)?;
+    add_on_terms(alloc, &mut primitives, b"gts", 2, Gts)?;
+    add_on_terms(alloc, &mut primitives, b"modi", 2, Modi)?;
+    add_on_terms(alloc, &mut primitives, b"strip-annos", 1, StripAnnos)?;
+    add_on_terms(alloc, &mut primitives, b"eq-ignore-annos", 2, EqIgnoreAnnos)?;
+    add_on_terms(alloc, &mut primitives, b"explode-term", 1, ExplodeTerm)?;
+    add_on_terms(alloc, &mut primitives, b"mkterm", 2, Mkterm)?;
+    add_on_terms(
         alloc,
         &mut primitives,
         b"greatest-number",
@@ -118,6 +146,21 @@ pub fn extended_primitives(alloc: Global) -> Result<Vec<Primitive<Extended>>, No
     )?;
     add(alloc, &mut primitives, b"compare", 2, Compare)?;
     Ok(primitives)
+}
+
+fn add_on_terms(
+    alloc: Global,
+    primitives: &mut Vec<Primitive<Extended>>,
+    name: &[u8],
+    arity: usize,
+    operation: TermOperation,
+) -> Result<(), NoMemory>
+    requires name { name.now ≡ name_of (OnTerms operation) }
+    requires arity { arity ≡ arity_of (OnTerms operation) }
+    ensures { OnOk result (primitives.new.items
+        ≡ primitives.old.items ++ record { name = name.now; arity = arity } ∷ []) }
+{
+    add(alloc, primitives, name, arity, OnTerms(operation))
 }
 
 fn add(

@@ -15,7 +15,7 @@ use crate::machine::InTable;
 use crate::scopes::Scopes;
 use std::alloc::Global;
 use strategy_syntax::ResolvedPattern;
-use term_core::{NoMemory, Term};
+use term_core::NoMemory;
 use term_match::{Built, Cells};
 use term_values::Value;
 
@@ -70,21 +70,6 @@ pub(crate) fn open_arguments<'t>(
 {
     'each: for i in 0..arguments.len() {
         cells.open_with(arguments[i].try_clone()?)?;
-    }
-    Ok(())
-}
-
-/// Makes the terms those of the arguments.
-pub(crate) fn own_terms(
-    alloc: Global,
-    arguments: &[Value<'_>],
-    terms: &mut Vec<Term>,
-) -> Result<(), NoMemory>
-    ensures { OnOk result (terms.new.items ≡ arguments.now) }
-{
-    terms.clear();
-    for argument in arguments {
-        terms.push(argument.to_term(alloc)?)?;
     }
     Ok(())
 }

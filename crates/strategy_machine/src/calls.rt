@@ -10,7 +10,7 @@ ghost use Rattle.strategy_machine.specs.Turns.{world_of};
 ghost use Rattle.strategy_machine.specs.inside.Taking.{Takes, TakeFalls};
 ghost use Rattle.strategy_machine.specs.inside.Endings.{Enters};
 
-use crate::arguments::{BuiltAll, build_all, open_arguments, own_terms};
+use crate::arguments::{BuiltAll, build_all, open_arguments};
 use crate::endings::{end_cells, end_scopes};
 use crate::forms::replace;
 use crate::frames::Turned;
@@ -21,7 +21,7 @@ use crate::tries::{take_try, tried};
 use prim_core::Meaning;
 use std::alloc::Global;
 use strategy_syntax::{Resolved, ResolvedForm as Form, ResolvedPattern, ResolvedStrategy};
-use term_core::{NoMemory, Term};
+use term_core::NoMemory;
 use term_values::Value;
 
 /// A strategy with `count` new variables. A rule is done at once.
@@ -181,11 +181,10 @@ pub(crate) fn take_prim<'t, M: Meaning>(
         BuiltAll::Nothing => Ok(m.fails()),
         BuiltAll::Big => Ok(Turned::Big),
         BuiltAll::All => {
-            own_terms(alloc, &m.arguments, &mut m.terms)?;
-            let Some(term) = answer_of(alloc, host, primitive, &m.terms)? else {
+            let Some(found) = answer_of(alloc, host, primitive, &m.arguments)? else {
                 return Ok(m.fails());
             };
-            let mut value = Value::from_term(alloc, &term)?;
+            let mut value = found;
             if !value.fits(m.level, host.room) {
                 return Ok(Turned::Big);
             }
@@ -197,12 +196,12 @@ pub(crate) fn take_prim<'t, M: Meaning>(
 
 // What a primitive answers on these terms; nothing if there is no such primitive, or if it takes
 // another number of terms.
-fn answer_of<M: Meaning>(
+fn answer_of<'t, M: Meaning>(
     alloc: Global,
     host: &Host<'_, M>,
     primitive: usize,
-    terms: &[Term],
-) -> Result<Option<Term>, NoMemory>
+    terms: &[Value<'t>],
+) -> Result<Option<Value<'t>>, NoMemory>
     ensures { IfOk result (λ found. found
         ≡ primitive_answer (world_of M.meaning host.now.definitions.now host.now.primitives.now host.now.room) primitive terms.now) }
 {

@@ -47,8 +47,6 @@ pub struct Machine<'t> {
     pub trail: Trail<'t>,
     /// The term arguments of the current call.
     pub arguments: Vec<Value<'t>>,
-    /// The terms that a primitive was called with last.
-    pub terms: Vec<Term>,
     pub level: u64,
     pub steps: u64,
 }
@@ -79,7 +77,6 @@ impl<'t> Machine<'t> {
             scopes: Scopes::new(alloc),
             trail,
             arguments: Vec::new(alloc),
-            terms: Vec::new(alloc),
             level,
             steps,
         }

@@ -1,2 +1,3 @@
 pub mod HeightLemmas
 pub mod OrderLemmas
+pub mod PartLemmas

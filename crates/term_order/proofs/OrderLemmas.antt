@@ -1,16 +1,14 @@
 -- The order on terms is total, and only equal terms tie.
-use Rattle.std.proofs.Common.{◌≡◌, ℕ, Bool, true, false, List, [], ◌∷◌, ◌<◌, refl, sym, ap, subst, ◌∙◌, length, drop, min, zero, suc, arith}
+use Rattle.std.proofs.Common.{◌≡◌, Bool, true, false, [], refl, sym, ap, subst, ◌∙◌}
 use Rattle.std.specs.declared.cmp.Ordering.{Ordering}
 use Rattle.std.specs.declared.cmp.Ordering.TheVariants.{Less, Equal, Greater}
-use Rattle.std.specs.Ordering.{is_ne, ordering_then, ordering_reverse, nat_cmp, int_cmp, bool_cmp, on, then_cmp, MatchOrdering}
-use Rattle.std.specs.Cmp.{IsTotalOrder, then_flip, then_total, on_total, bool_cmp_total, alike_right, ranked, nat_cmp_is}
+use Rattle.std.specs.Ordering.{ordering_then, ordering_reverse, nat_cmp, int_cmp, bool_cmp, on, then_cmp}
+use Rattle.std.specs.Cmp.{IsTotalOrder, then_flip, then_total, on_total, bool_cmp_total, alike_right}
 use Rattle.std.proofs.lemmas.Cmp.{nat_cmp_total, int_cmp_total}
 use Rattle.std.specs.Cmp.Lexicographic.{slice_cmp, on_texts}
 use Rattle.std.specs.FinMap.{IsAntisymmetric, nat_cmp-IsAntisymmetric, int_cmp-IsAntisymmetric, slice_cmp-IsAntisymmetric}
-use Rattle.term_core.specs.Tree.{Symbol, Head, application, list, tuple, Tree, Trees, integer, branch, none, more, of_list, children, annotations}
-use Rattle.term_core.proofs.TreeLemmas.{of_list-to_list}
+use Rattle.term_core.specs.Tree.{Symbol, Head, application, list, tuple, Tree, Trees, integer, branch, none, more}
 use Rattle.term_order.specs.Order.{compared_names, rank, compared_heads, compared, compared_all}
-use Rattle.term_order.specs.inside.Roots.{compared_roots}
 use Rattle.term_order.specs.Laws.{TermsAreOrdered}
 
 -- ---- one order and then another
@@ -165,71 +163,3 @@ same_terms = same
 
 pub terms_are_ordered : TermsAreOrdered
 terms_are_ordered = (order, same_terms)
-
--- ---- how the order is computed
-
-decided : (r o : Ordering) → is_ne r ≡ true → r ≡ ordering_then r o
-decided Less o h = refl
-decided Equal o h = absurd (cc)
-decided Greater o h = refl
-
-undecided : (r o : Ordering) → is_ne r ≡ false → o ≡ ordering_then r o
-undecided Less o h = absurd (cc)
-undecided Equal o h = refl
-undecided Greater o h = absurd (cc)
-
-by_roots : (t u : Tree)
-    → ordering_then (compared_roots t u) (ordering_then (compared_all (of_list (children t)) (of_list (children u))) (compared_all (of_list (annotations t)) (of_list (annotations u))))
-    ≡ compared t u
-by_roots (integer x ms) (integer y ns) = λ i. ordering_then (int_cmp x y) (compared_all (of_list-to_list ms i) (of_list-to_list ns i))
-by_roots (integer x ms) (branch h us ns) = refl
-by_roots (branch g ts ms) (integer y ns) = refl
-by_roots (branch g ts ms) (branch h us ns) =
-    λ i. ordering_then (compared_heads g h) (ordering_then (compared_all (of_list-to_list ts i) (of_list-to_list us i)) (compared_all (of_list-to_list ms i) (of_list-to_list ns i)))
-
--- the order of two lists of terms that are known
-of_same : (ts us vs ws : List Tree) (o : Ordering) → ts ≡ vs → us ≡ ws → o ≡ compared_all (of_list ts) (of_list us) → o ≡ compared_all (of_list vs) (of_list ws)
-of_same ts us vs ws o e f g = g ∙ (λ i. compared_all (of_list (e i)) (of_list (f i)))
-
-pub children_decide : (t u : Tree) (ts us : List Tree) (r c : Ordering) → r ≡ compared_roots t u → is_ne r ≡ false → ts ≡ children t → us ≡ children u
-    → c ≡ compared_all (of_list ts) (of_list us) → is_ne c ≡ true → c ≡ compared t u
-children_decide t u ts us r c roots same e f kids other =
-    let notes = compared_all (of_list (annotations t)) (of_list (annotations u)) in
-    let are = of_same ts us (children t) (children u) c e f kids in
-    decided c notes other ∙ undecided r (ordering_then c notes) same ∙ (λ i. ordering_then (roots i) (ordering_then (are i) notes)) ∙ by_roots t u
-
-pub annotations_decide : (t u : Tree) (ts us ms ns : List Tree) (r c o : Ordering) → r ≡ compared_roots t u → is_ne r ≡ false → ts ≡ children t → us ≡ children u
-    → c ≡ compared_all (of_list ts) (of_list us) → is_ne c ≡ false → ms ≡ annotations t → ns ≡ annotations u → o ≡ compared_all (of_list ms) (of_list ns) → o ≡ compared t u
-annotations_decide t u ts us ms ns r c o roots same e f kids alike g h notes =
-    let are = of_same ts us (children t) (children u) c e f kids in
-    let stand = of_same ms ns (annotations t) (annotations u) o g h notes in
-    undecided c o alike ∙ undecided r (ordering_then c o) same ∙ (λ i. ordering_then (roots i) (ordering_then (are i) (stand i))) ∙ by_roots t u
-
--- ---- where one list ends, the longer one comes after
-
-up : (a b : ℕ) (o : Ordering) → MatchOrdering o (a < b) (a ≡ b) (b < a) → MatchOrdering o (suc a < suc b) (suc a ≡ suc b) (suc b < suc a)
-up a b Less h = omega (arith, h)
-up a b Equal h = ap suc h
-up a b Greater h = omega (arith, h)
-
-longer : (a b : ℕ) → nat_cmp (suc a) (suc b) ≡ nat_cmp a b
-longer a b = sym (nat_cmp_is (suc a) (suc b) (nat_cmp a b) (up a b (nat_cmp a b) (ranked a b (nat_cmp a b) refl)))
-
-shorter : (n : ℕ) → nat_cmp 0 (suc n) ≡ Less
-shorter n = sym (nat_cmp_is 0 (suc n) Less (omega arith))
-
-no_shorter : (n : ℕ) → nat_cmp (suc n) 0 ≡ Greater
-no_shorter n = sym (nat_cmp_is (suc n) 0 Greater (omega arith))
-
-pub ends : (ts us : List Tree) (n : ℕ) → n ≡ min (length ts) (length us) → nat_cmp (length ts) (length us) ≡ compared_all (of_list (drop n ts)) (of_list (drop n us))
-ends [] [] n e =
-    let none : n ≡ 0 = omega (arith, e) in
-    subst (λ k. nat_cmp 0 0 ≡ compared_all (of_list (drop k [])) (of_list (drop k []))) (sym none) refl
-ends [] (u ∷ us) n e =
-    let none : n ≡ 0 = omega (arith, e) in
-    shorter (length us) ∙ subst (λ k. Less ≡ compared_all (of_list (drop k [])) (of_list (drop k (u ∷ us)))) (sym none) refl
-ends (t ∷ ts) [] n e =
-    let none : n ≡ 0 = omega (arith, e) in
-    no_shorter (length ts) ∙ subst (λ k. Greater ≡ compared_all (of_list (drop k (t ∷ ts))) (of_list (drop k []))) (sym none) refl
-ends (t ∷ ts) (u ∷ us) zero e = absurd (omega (arith, e))
-ends (t ∷ ts) (u ∷ us) (suc n) e = longer (length ts) (length us) ∙ ends ts us n (omega (arith, e))

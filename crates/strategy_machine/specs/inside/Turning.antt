@@ -29,7 +29,6 @@ with_next m n = record {
   scopes = m.scopes;
   trail = m.trail;
   arguments = m.arguments;
-  terms = m.terms;
   level = m.level;
   steps = m.steps;
 }
