@@ -1,3 +1,5 @@
 pub mod Order
 pub mod Laws
+pub mod Tables
+pub mod TableLaws
 pub mod inside
