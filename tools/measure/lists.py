@@ -1,4 +1,5 @@
-"""Counts the instructions that strategies on lists and strings take, an element or a byte, beside primitives that go over as many.
+"""Counts the instructions that strategies on lists and strings take, an element or a byte, beside primitives that go over as many,
+and those that tables take, an entry.
 
 Run by hand at the top of the repository, after the program was built (README has the command):
 
@@ -14,8 +15,9 @@ import tempfile
 
 from measure import TOP, built_program, heading, instructions
 
-MODULES = [word for name in ("numbers", "lists", "terms", "names") for word in ("--module", f"{name}={TOP}/strategies/{name}.str")]
+MODULES = [word for name in ("numbers", "lists", "terms", "names", "tables") for word in ("--module", f"{name}={TOP}/strategies/{name}.str")]
 COUNTS = (100, 400)
+ENTRIES = (100, 1000, 10000)
 
 
 def numbers(count):
@@ -68,6 +70,17 @@ PRIMITIVES = {
     "`strcat`, a byte": ('?x; prim("strcat",x,x)', lambda n: f'"{"a" * (n // 2)}"'),
 }
 
+# Pairs of integers in any order, and of strings.
+TABLES = {
+    "`table-put`": ("table-of", lambda n: listed(f"({it},0)" for it in shuffled(n))),
+    "`table-put` and `table-get`": ('?ps; table-of => t; !ps; all({k: ?(k,_); prim("table-get",t,k)})', lambda n: listed(f"({it},0)" for it in shuffled(n))),
+    "the same with strings": ('?ps; table-of => t; !ps; all({k: ?(k,_); prim("table-get",t,k)})', lambda n: listed(f'("x{it}",0)' for it in shuffled(n))),
+    "`table-put` and `table-remove`": (
+        "?ps; table-of => t; !(ps,t); rec r(?([],_) <+ {k,qs,u: ?([(k,_)|qs],u); !(qs,<table-remove(|k)> u)}; r)",
+        lambda n: listed(f"({it},0)" for it in shuffled(n)),
+    ),
+}
+
 
 def counted(program, strategy, tree):
     """Instructions of an apply."""
@@ -81,11 +94,11 @@ def counted(program, strategy, tree):
     return full - base
 
 
-def table(program, title, kinds):
+def table(program, title, kinds, counts=COUNTS):
     heading(title)
-    print(f"| | {COUNTS[0]} | {COUNTS[1]} |\n|---|---|---|")
+    print(f"| | {' | '.join(map(str, counts))} |\n|---{'|---' * len(counts)}|")
     for name, (strategy, tree) in kinds.items():
-        cells = [f"{counted(program, strategy, tree(count)) / count:,.0f}" for count in COUNTS]
+        cells = [f"{counted(program, strategy, tree(count)) / count:,.0f}" for count in counts]
         print(f"| {name} | {' | '.join(cells)} |", flush=True)
 
 
@@ -93,6 +106,7 @@ def main():
     program = built_program()
     table(program, "Lists and strings by strategies: instructions an element", STRATEGIES)
     table(program, "Primitives that go over lists and strings: instructions an element", PRIMITIVES)
+    table(program, "Tables: instructions an entry", TABLES, ENTRIES)
 
 
 if __name__ == "__main__":

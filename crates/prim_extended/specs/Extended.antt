@@ -1,4 +1,4 @@
--- The meaning of the extended primitives: the standard ones, and ten more.
+-- The meaning of the extended primitives: the standard ones, and fourteen more.
 use Rattle.std.specs.Prelude.{ℕ, List, if◌then◌else◌, codes}
 use Rattle.std.specs.declared.option.Option.{Option}
 use Rattle.std.specs.Str.{bytes_eq}
@@ -9,6 +9,7 @@ use Rattle.prim_extended.specs.Bytes.{exploded_of, imploded_of, later_of}
 use Rattle.prim_extended.specs.Comparing.{compared_of}
 use Rattle.prim_extended.specs.Constructors.{taken_apart_of, put_together_of}
 use Rattle.prim_extended.specs.Greatest.{greatest_of}
+use Rattle.prim_extended.specs.TablePrimitives.{got_of, keys_of, put_of, removed_of}
 use Rattle.prim_extended.specs.Remainder.{remainder_of}
 
 -- by name; any other name means what it does among the standard primitives
@@ -24,4 +25,8 @@ extended name arguments =
     if (bytes_eq name (codes "strip-annos")) then stripped_of arguments else
     if (bytes_eq name (codes "eq-ignore-annos")) then equal_of arguments else
     if (bytes_eq name (codes "compare")) then compared_of arguments else
+    if (bytes_eq name (codes "table-put")) then put_of arguments else
+    if (bytes_eq name (codes "table-get")) then got_of arguments else
+    if (bytes_eq name (codes "table-remove")) then removed_of arguments else
+    if (bytes_eq name (codes "table-keys")) then keys_of arguments else
     standard name arguments

@@ -3,7 +3,7 @@ use Rattle.std.specs.Prelude.{ℕ, List, [], ◌∷◌, ◌++◌, codes}
 use Rattle.prim_core.specs.Signature.{Signature}
 use Rattle.prim_core.specs.StandardTable.{standard_signatures}
 use Rattle.prim_extended.specs.declared.operations.ExtendedOperation.{ExtendedOperation}
-use Rattle.prim_extended.specs.declared.operations.ExtendedOperation.TheVariants.{OnTerms, Compare}
+use Rattle.prim_extended.specs.declared.operations.ExtendedOperation.TheVariants.{OnTerms, Compare, TablePut, TableGet, TableRemove, TableKeys}
 use Rattle.prim_extended.specs.declared.operations.TermOperation.TheVariants.{Addi, Subti, Muli, Divi, Gti, Strcat, Strlen, IntToString, StringToInt, ExplodeString, ImplodeString, Gts, Modi, StripAnnos, EqIgnoreAnnos, ExplodeTerm, Mkterm, GreatestNumber}
 
 abbrev signature : List ℕ → ℕ → Signature
@@ -16,7 +16,8 @@ extended_signatures = standard_signatures
     ∷ (signature (codes "gts") 2 ∷ (signature (codes "modi") 2
     ∷ (signature (codes "strip-annos") 1 ∷ (signature (codes "eq-ignore-annos") 2
     ∷ (signature (codes "explode-term") 1 ∷ (signature (codes "mkterm") 2
-    ∷ (signature (codes "greatest-number") 2 ∷ (signature (codes "compare") 2 ∷ []))))))))))
+    ∷ (signature (codes "greatest-number") 2 ∷ (signature (codes "compare") 2
+    ∷ (signature (codes "table-put") 3 ∷ (signature (codes "table-get") 2 ∷ (signature (codes "table-remove") 2 ∷ (signature (codes "table-keys") 1 ∷ []))))))))))))))
 
 -- ---- each as a value
 
@@ -40,6 +41,10 @@ name_of (OnTerms ExplodeTerm) = codes "explode-term"
 name_of (OnTerms Mkterm) = codes "mkterm"
 name_of (OnTerms GreatestNumber) = codes "greatest-number"
 name_of Compare = codes "compare"
+name_of TablePut = codes "table-put"
+name_of TableGet = codes "table-get"
+name_of TableRemove = codes "table-remove"
+name_of TableKeys = codes "table-keys"
 
 abbrev pub arity_of : ExtendedOperation → ℕ
 arity_of (OnTerms Addi) = 2
@@ -61,3 +66,7 @@ arity_of (OnTerms ExplodeTerm) = 1
 arity_of (OnTerms Mkterm) = 2
 arity_of (OnTerms GreatestNumber) = 2
 arity_of Compare = 2
+arity_of TablePut = 3
+arity_of TableGet = 2
+arity_of TableRemove = 2
+arity_of TableKeys = 1

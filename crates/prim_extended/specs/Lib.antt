@@ -4,5 +4,6 @@ pub mod Annotations
 pub mod Constructors
 pub mod Greatest
 pub mod Comparing
+pub mod TablePrimitives
 pub mod Extended
 pub mod ExtendedTable

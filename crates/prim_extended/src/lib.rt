@@ -1,6 +1,6 @@
-//! The standard primitives and ten more: strings as lists of bytes, the order of strings,
+//! The standard primitives and fourteen more: strings as lists of bytes, the order of strings,
 //! remainders, terms without annotations, equality but for these, terms as constructors with
-//! children, the greatest number after a beginning of strings, and the order on terms.
+//! children, the greatest number after a beginning of strings, the order on terms, and tables.
 #![tactic(auto)]
 
 pub mod annotations;
@@ -12,6 +12,7 @@ pub mod integers;
 pub mod laws;
 pub mod operations;
 pub mod strings;
+pub mod tables;
 
 pub use annotations::{eq_ignore_annos, strip_annos};
 pub use comparing::compare;
@@ -20,3 +21,4 @@ pub use greatest::greatest_number;
 pub use integers::modi;
 pub use operations::{Extended, ExtendedOperation, TermOperation, extended_primitives};
 pub use strings::{explode_string, gts, implode_string};
+pub use tables::{table_get, table_keys, table_put, table_remove};

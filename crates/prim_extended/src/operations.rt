@@ -11,6 +11,7 @@ use crate::constructors::{explode_term, mkterm};
 use crate::greatest::greatest_number;
 use crate::integers::modi;
 use crate::strings::{explode_string, gts, implode_string};
+use crate::tables::{table_get, table_keys, table_put, table_remove};
 use prim_core::{
     Meaning, Operation, Primitive, addi, as_value, divi, gti, int_to_string, muli, own_terms,
     strcat, string_to_int, strlen, subti,
@@ -19,12 +20,16 @@ use std::alloc::Global;
 use term_core::{NoMemory, Term};
 use term_values::Value;
 
-/// One of the extended primitives, by its name. The first ones take owned terms; `compare` looks at
-/// values, and takes no copies.
+/// One of the extended primitives, by its name. The first ones take owned terms; the others look at
+/// values, and take no copies.
 #[derive(Clone, Copy, Debug, Drop)]
 pub enum ExtendedOperation {
     OnTerms(TermOperation),
     Compare,
+    TablePut,
+    TableGet,
+    TableRemove,
+    TableKeys,
 }
 
 /// One of the primitives that take owned terms.
@@ -50,7 +55,7 @@ pub enum TermOperation {
     GreatestNumber,
 }
 
-use ExtendedOperation::{Compare, OnTerms};
+use ExtendedOperation::{Compare, OnTerms, TableGet, TableKeys, TablePut, TableRemove};
 use TermOperation::{
     Addi, Divi, EqIgnoreAnnos, ExplodeString, ExplodeTerm, GreatestNumber, Gti, Gts, ImplodeString,
     IntToString, Mkterm, Modi, Muli, Strcat, StringToInt, StripAnnos, Strlen, Subti,
@@ -72,6 +77,10 @@ impl Operation for ExtendedOperation {
                 as_value(alloc, operation.run(alloc, &terms)?)
             }
             Compare => Ok(Some(compare(arguments))),
+            TablePut => table_put(alloc, arguments),
+            TableGet => table_get(arguments),
+            TableRemove => table_remove(alloc, arguments),
+            TableKeys => table_keys(alloc, arguments),
         }
     }
 }
@@ -145,6 +154,10 @@ pub fn extended_primitives(alloc: Global) -> Result<Vec<Primitive<Extended>>, No
         GreatestNumber,
     )?;
     add(alloc, &mut primitives, b"compare", 2, Compare)?;
+    add(alloc, &mut primitives, b"table-put", 3, TablePut)?;
+    add(alloc, &mut primitives, b"table-get", 2, TableGet)?;
+    add(alloc, &mut primitives, b"table-remove", 2, TableRemove)?;
+    add(alloc, &mut primitives, b"table-keys", 1, TableKeys)?;
     Ok(primitives)
 }
 
