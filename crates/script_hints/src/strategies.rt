@@ -6,6 +6,8 @@ use hint_text::has_word;
 const DEFINED: &str =
     "control repeat repeat1 while while-not do-while fixpoint topdown bottomup innermost
 control innermost-built normalise-levels
+environments new-environment enter-scope leave-scope bind bind-all put-all value-of value-here
+environments assign visible
 free-variables free-variables is-closed bound-here add-free add-free-of-each add-free-by-role
 free-variables with-roles names-bound
 lists is-list conc at-end concat reverse length last elem fetch fetch-elem lookup filter
@@ -17,6 +19,8 @@ names newnames greatest-number fresh-number fresh-name renaming rename try-renam
 numbers add subt mul div mod inc dec gt lt geq leq max min is-int even int-to-string string-to-int
 substitution substitute-free substitute-in substitute-in-scope substitute-by-role is-about
 substitution to-variable unique-names alpha-equal unique unique-each unique-by-role number-names
+tables table-put table-get table-remove table-keys table-pairs table-pair table-values table-size
+tables table-of table-map
 terms get-arguments take-arguments set-arguments set-each crush collect-all collect-all-of-each
 terms collect collect-of-each
 terms subterms occurrences occurrences-in-each substitute preserve-annos eq-ignore-annos
