@@ -1,0 +1,10 @@
+pub mod SortLemmas
+pub mod ListLemmas
+pub mod FormLemmas
+pub mod TakesLemmas
+pub mod TableLemmas
+pub mod GainLemmas
+pub mod WantedLemmas
+pub mod SignatureLemmas
+pub mod ConformLemmas
+pub mod LawLemmas

@@ -1,0 +1,4 @@
+pub mod Sorts
+pub mod Signatures
+pub mod Laws
+pub mod inside

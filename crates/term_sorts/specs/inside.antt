@@ -1,0 +1,9 @@
+pub mod SortCode
+pub mod SortView
+pub mod Tables
+pub mod TableView
+pub mod Gaining
+pub mod Wanting
+pub mod Forms
+pub mod SignatureCode
+pub mod SignatureView
