@@ -9,4 +9,6 @@ mod matching;
 #[cfg(test)]
 mod paths;
 #[cfg(test)]
+mod sorts;
+#[cfg(test)]
 mod terms;
