@@ -5,10 +5,12 @@ ghost use Rattle.aterm_text.specs.Layout.{pretty as pretty_of};
 ghost use Rattle.aterm_text.specs.Printed.{print as print_of, print_name as name_printed};
 ghost use Rattle.session_history.specs.Differences.{base_of, TellsChanges};
 ghost use Rattle.session_history.specs.Dump.{dumped};
+ghost use Rattle.script_text.specs.Replies.{replacement_line};
 
 use aterm_text::{pretty, print, print_name};
 use itoa::Buffer;
 use prim_core::Meaning;
+use session_changes::{Side, append_change};
 use session_core::{Refusal, Session};
 use std::alloc::Global;
 use std::marker::Model;
@@ -84,6 +86,26 @@ impl Answer {
         ensures { OnOk result (self.new ≡ self.old ++ print_of term.now) }
     {
         print(term, &mut self.bytes)
+    }
+
+    // Appends a path, what is there, and what would be there. The path of the root is a slash.
+    pub(crate) fn append_replacement(
+        &mut self,
+        path: &[usize],
+        old: &Term,
+        new: &Term,
+    ) -> Result<(), NoMemory>
+        ensures { OnOk result (self.new
+            ≡ self.old ++ replacement_line (record { path = path.now; old = old.now; new = new.now })) }
+    {
+        let before: &[u8] = if path.is_empty() { b"/" } else { b"" };
+        append_change(
+            before,
+            path,
+            Side::Tree(old),
+            Side::Tree(new),
+            &mut self.bytes,
+        )
     }
 
     pub(crate) fn append_pretty(&mut self, term: &Term) -> Result<(), NoMemory>

@@ -3,7 +3,7 @@
 ghost use Rattle.std.specs.Prelude.{◌≡◌, ◌++◌, length, false, OnOk};
 ghost use Rattle.std.specs.List.{flat_map};
 ghost use Rattle.script_text.specs.Form.{preview as preview_form};
-ghost use Rattle.script_text.specs.Replies.{Replies, path_text, preview_line, replacement_line};
+ghost use Rattle.script_text.specs.Replies.{Replies, preview_line};
 ghost use Rattle.script_core.specs.inside.Performing.{PerformedRight};
 ghost use Rattle.script_core.specs.inside.PreviewLines.{AreIn, entry_line};
 
@@ -59,31 +59,5 @@ impl Answer {
         self.append(b" steps ")?;
         self.append_number(steps)?;
         self.push(b'\n')
-    }
-
-    // Appends a path, what is there, and what would be there.
-    fn append_replacement(&mut self, path: &[usize], old: &Term, new: &Term) -> Result<(), NoMemory>
-        ensures { OnOk result (self.new
-            ≡ self.old ++ replacement_line (record { path = path.now; old = old.now; new = new.now })) }
-    {
-        self.append_path(path)?;
-        self.push(b' ')?;
-        self.append_term(old)?;
-        self.append(b" => ")?;
-        self.append_term(new)?;
-        self.push(b'\n')
-    }
-
-    fn append_path(&mut self, path: &[usize]) -> Result<(), NoMemory>
-        ensures { OnOk result (self.new ≡ self.old ++ path_text path.now) }
-    {
-        if path.is_empty() {
-            return self.push(b'/');
-        }
-        for part in path {
-            self.push(b'/')?;
-            self.append_number(*part as u64)?;
-        }
-        Ok(())
     }
 }

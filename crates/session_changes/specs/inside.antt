@@ -1,4 +1,3 @@
-pub mod Sides
 pub mod Lined
 pub mod ReadPatches
 pub mod Told

@@ -8,3 +8,4 @@ mod lines;
 mod patches;
 
 pub use last_step::diff;
+pub use lines::{Side, append_change};

@@ -6,7 +6,7 @@ ghost use Rattle.term_core.specs.Tree.{of_list};
 ghost use Rattle.aterm_text.specs.Printed.{print_all};
 ghost use Rattle.aterm_text.specs.inside.Printing.{Extends};
 ghost use Rattle.session_history.specs.Differences.{change_line, in_braces, text_line};
-ghost use Rattle.session_changes.specs.inside.Sides.{side_text};
+ghost use Rattle.session_changes.specs.Sides.{side_text};
 
 use aterm_text::print;
 use itoa::Buffer;
@@ -23,7 +23,7 @@ pub(crate) struct CountedLines {
 
 /// What a place had before a change, or has now.
 #[derive(Clone, Copy)]
-pub(crate) enum Side<'a> {
+pub enum Side<'a> {
     /// No tree.
     Nothing,
     /// A tree or a subterm.
@@ -49,13 +49,9 @@ impl CountedLines {
             ≡ self.old.text.items ++ change_line name.now path.now (side_text old.entry) (side_text new.entry)) }
         ensures count { OnOk result (self.new.count ≡ self.old.count + 1) }
     {
-        self.text.extend_from_slice(name)?;
-        append_path(path, &mut self.text)?;
-        self.text.push(b' ')?;
-        append_side(old, &mut self.text)?;
-        self.text.extend_from_slice(b" => ")?;
-        append_side(new, &mut self.text)?;
-        self.end_line()
+        append_change(name, path, old, new, &mut self.text)?;
+        self.count += 1;
+        Ok(())
     }
 
     /// Adds a line that says what became of the module of the name.
@@ -67,22 +63,60 @@ impl CountedLines {
         self.text.extend_from_slice(name)?;
         self.text.push(b' ')?;
         self.text.extend_from_slice(what)?;
-        self.end_line()
-    }
-
-    fn end_line(&mut self) -> Result<(), NoMemory>
-        ensures text { OnOk result (self.new.text.items ≡ self.old.text.items ++ 10 ∷ []) }
-        ensures count { OnOk result (self.new.count ≡ self.old.count + 1) }
-    {
         self.text.push(b'\n')?;
         self.count += 1;
         Ok(())
     }
 }
 
+/// Appends a line: a place in the tree of the name, what was there and what is there now. If memory
+/// can't grow, `out` is unchanged.
+pub fn append_change(
+    name: &[u8],
+    path: &[usize],
+    old: Side<'_>,
+    new: Side<'_>,
+    out: &mut Vec<u8>,
+) -> Result<(), NoMemory>
+    ensures ok { OnOk result (out.new.items
+        ≡ out.old.items ++ change_line name.now path.now (side_text old.entry) (side_text new.entry)) }
+    ensures err { OnErr result (out.new.items ≡ out.old.items) }
+    ensures room { vec_capacity out.old ≤ vec_capacity out.new }
+{
+    let begun = out.len();
+    let appended = append_parts(name, path, old, new, out);
+    if appended.is_err() {
+        out.truncate(begun);
+    }
+    appended
+}
+
+fn append_parts(
+    name: &[u8],
+    path: &[usize],
+    old: Side<'_>,
+    new: Side<'_>,
+    out: &mut Vec<u8>,
+) -> Result<(), NoMemory>
+    ensures ok { OnOk result (out.new.items
+        ≡ out.old.items ++ change_line name.now path.now (side_text old.entry) (side_text new.entry)) }
+    ensures err { Extends out.old.items out.new.items }
+    ensures room { vec_capacity out.old ≤ vec_capacity out.new }
+{
+    out.extend_from_slice(name)?;
+    append_path(path, out)?;
+    out.push(b' ')?;
+    append_side(old, out)?;
+    out.extend_from_slice(b" => ")?;
+    append_side(new, out)?;
+    out.push(b'\n')?;
+    Ok(())
+}
+
 fn append_path(path: &[usize], out: &mut Vec<u8>) -> Result<(), NoMemory>
     ensures ok { OnOk result (out.new.items ≡ out.old.items ++ flat_map (λ i. 47 ∷ decimal i) path.now) }
-    ensures grows { length out.old.items ≤ length out.new.items }
+    ensures err { Extends out.old.items out.new.items }
+    ensures room { vec_capacity out.old ≤ vec_capacity out.new }
 {
     for part in path {
         out.push(b'/')?;
@@ -94,7 +128,6 @@ fn append_path(path: &[usize], out: &mut Vec<u8>) -> Result<(), NoMemory>
 fn append_number(number: u64, out: &mut Vec<u8>) -> Result<(), NoMemory>
     ensures ok { OnOk result (out.new.items ≡ out.old.items ++ decimal number) }
     ensures err { Extends out.old.items out.new.items }
-    ensures grows { length out.old.items ≤ length out.new.items }
     ensures room { vec_capacity out.old ≤ vec_capacity out.new }
 {
     let mut digits = Buffer::new();
@@ -104,7 +137,8 @@ fn append_number(number: u64, out: &mut Vec<u8>) -> Result<(), NoMemory>
 
 fn append_side(side: Side<'_>, out: &mut Vec<u8>) -> Result<(), NoMemory>
     ensures ok { OnOk result (out.new.items ≡ out.old.items ++ side_text side.entry) }
-    ensures grows { length out.old.items ≤ length out.new.items }
+    ensures err { Extends out.old.items out.new.items }
+    ensures room { vec_capacity out.old ≤ vec_capacity out.new }
 {
     match side {
         Side::Nothing => {
@@ -118,7 +152,8 @@ fn append_side(side: Side<'_>, out: &mut Vec<u8>) -> Result<(), NoMemory>
 
 fn append_annotations(terms: &[Term], out: &mut Vec<u8>) -> Result<(), NoMemory>
     ensures ok { OnOk result (out.new.items ≡ out.old.items ++ in_braces (of_list terms.now)) }
-    ensures grows { length out.old.items ≤ length out.new.items }
+    ensures err { Extends out.old.items out.new.items }
+    ensures room { vec_capacity out.old ≤ vec_capacity out.new }
 {
     out.push(b'{')?;
     append_all(terms, out)?;
@@ -129,7 +164,8 @@ fn append_annotations(terms: &[Term], out: &mut Vec<u8>) -> Result<(), NoMemory>
 // The terms, separated by commas.
 fn append_all(terms: &[Term], out: &mut Vec<u8>) -> Result<(), NoMemory>
     ensures ok { OnOk result (out.new.items ≡ out.old.items ++ print_all (of_list terms.now)) }
-    ensures grows { length out.old.items ≤ length out.new.items }
+    ensures err { Extends out.old.items out.new.items }
+    ensures room { vec_capacity out.old ≤ vec_capacity out.new }
 {
     let Some((first, rest)) = terms.split_first() else {
         return Ok(());
