@@ -120,6 +120,37 @@ the_same_term = refl
 annotation_after : extended (codes "compare") (pair (noted (pos 9)) (integer_term (pos 9))) ≡ Some (integer_term (pos 1))
 annotation_after = refl
 
+-- ---- lists
+
+counted : extended (codes "list-length") (list_term (integers (pos 7) (pos 7)) ∷ []) ≡ Some (integer_term (pos 2))
+counted = refl
+
+tuple_not_counted : extended (codes "list-length") (tuple_term (integers (pos 7) (pos 7)) ∷ []) ≡ None
+tuple_not_counted = refl
+
+reversed : extended (codes "list-reverse") (list_term (pair (noted (pos 1)) (integer_term (pos 2))) ∷ []) ≡ Some (list_term (pair (integer_term (pos 2)) (noted (pos 1))))
+reversed = refl
+
+concatenated : extended (codes "list-concat") (list_term (list_term (integers (pos 1) (pos 2)) ∷ list_term [] ∷ list_term (noted (pos 3) ∷ []) ∷ []) ∷ [])
+    ≡ Some (list_term (integer_term (pos 1) ∷ integer_term (pos 2) ∷ noted (pos 3) ∷ []))
+concatenated = refl
+
+no_list_among_lists : extended (codes "list-concat") (list_term (pair (list_term []) (tuple_term [])) ∷ []) ≡ None
+no_list_among_lists = refl
+
+placed : extended (codes "list-index") (pair (noted (pos 1)) (list_term (integer_term (pos 1) ∷ noted (pos 1) ∷ noted (pos 1) ∷ []))) ≡ Some (integer_term (pos 1))
+placed = refl
+
+in_no_place : extended (codes "list-index") (pair (noted (pos 1)) (list_term (integers (pos 1) (pos 2)))) ≡ None
+in_no_place = refl
+
+looked_up : extended (codes "list-lookup") (pair (integer_term (pos 1)) (list_term (integer_term (pos 1) ∷ tuple_term (integers (pos 2) (pos 1)) ∷ tuple_term (pair (integer_term (pos 1)) (noted (pos 3))) ∷ tuple_term (integers (pos 1) (pos 4)) ∷ [])))
+    ≡ Some (noted (pos 3))
+looked_up = refl
+
+no_such_key : extended (codes "list-lookup") (pair (integer_term (pos 1)) (list_term (list_term (integers (pos 1) (pos 2)) ∷ tuple_term (integer_term (pos 1) ∷ integers (pos 2) (pos 3)) ∷ []))) ≡ None
+no_such_key = refl
+
 -- ---- the names of the standard primitives, on all terms
 
 addi_agrees : (terms : List Tree) → extended (codes "addi") terms ≡ standard (codes "addi") terms

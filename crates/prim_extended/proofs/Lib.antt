@@ -4,3 +4,4 @@ pub mod ExtendedRows
 pub mod QuoteLemmas
 pub mod ConstructorLemmas
 pub mod GreatestLemmas
+pub mod ListLemmas

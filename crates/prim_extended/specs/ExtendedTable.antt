@@ -3,7 +3,7 @@ use Rattle.std.specs.Prelude.{ℕ, List, [], ◌∷◌, ◌++◌, codes}
 use Rattle.prim_core.specs.Signature.{Signature}
 use Rattle.prim_core.specs.StandardTable.{standard_signatures}
 use Rattle.prim_extended.specs.declared.operations.ExtendedOperation.{ExtendedOperation}
-use Rattle.prim_extended.specs.declared.operations.ExtendedOperation.TheVariants.{OnTerms, Compare, TablePut, TableGet, TableRemove, TableKeys}
+use Rattle.prim_extended.specs.declared.operations.ExtendedOperation.TheVariants.{OnTerms, Compare, TablePut, TableGet, TableRemove, TableKeys, ListLength, ListReverse, ListConcat, ListIndex, ListLookup}
 use Rattle.prim_extended.specs.declared.operations.TermOperation.TheVariants.{Addi, Subti, Muli, Divi, Gti, Strcat, Strlen, IntToString, StringToInt, ExplodeString, ImplodeString, Gts, Modi, StripAnnos, EqIgnoreAnnos, ExplodeTerm, Mkterm, GreatestNumber}
 
 abbrev signature : List ℕ → ℕ → Signature
@@ -17,7 +17,11 @@ extended_signatures = standard_signatures
     ∷ (signature (codes "strip-annos") 1 ∷ (signature (codes "eq-ignore-annos") 2
     ∷ (signature (codes "explode-term") 1 ∷ (signature (codes "mkterm") 2
     ∷ (signature (codes "greatest-number") 2 ∷ (signature (codes "compare") 2
-    ∷ (signature (codes "table-put") 3 ∷ (signature (codes "table-get") 2 ∷ (signature (codes "table-remove") 2 ∷ (signature (codes "table-keys") 1 ∷ []))))))))))))))
+    ∷ (signature (codes "table-put") 3 ∷ (signature (codes "table-get") 2
+    ∷ (signature (codes "table-remove") 2 ∷ (signature (codes "table-keys") 1
+    ∷ (signature (codes "list-length") 1 ∷ (signature (codes "list-reverse") 1
+    ∷ (signature (codes "list-concat") 1 ∷ (signature (codes "list-index") 2
+    ∷ (signature (codes "list-lookup") 2 ∷ [])))))))))))))))))))
 
 -- ---- each as a value
 
@@ -45,6 +49,11 @@ name_of TablePut = codes "table-put"
 name_of TableGet = codes "table-get"
 name_of TableRemove = codes "table-remove"
 name_of TableKeys = codes "table-keys"
+name_of ListLength = codes "list-length"
+name_of ListReverse = codes "list-reverse"
+name_of ListConcat = codes "list-concat"
+name_of ListIndex = codes "list-index"
+name_of ListLookup = codes "list-lookup"
 
 abbrev pub arity_of : ExtendedOperation → ℕ
 arity_of (OnTerms Addi) = 2
@@ -70,3 +79,8 @@ arity_of TablePut = 3
 arity_of TableGet = 2
 arity_of TableRemove = 2
 arity_of TableKeys = 1
+arity_of ListLength = 1
+arity_of ListReverse = 1
+arity_of ListConcat = 1
+arity_of ListIndex = 2
+arity_of ListLookup = 2

@@ -5,5 +5,6 @@ pub mod Constructors
 pub mod Greatest
 pub mod Comparing
 pub mod TablePrimitives
+pub mod ListPrimitives
 pub mod Extended
 pub mod ExtendedTable

@@ -1,6 +1,6 @@
-//! The standard primitives and fourteen more: strings as lists of bytes, the order of strings,
+//! The standard primitives and nineteen more: strings as lists of bytes, the order of strings,
 //! remainders, terms without annotations, equality but for these, terms as constructors with
-//! children, the greatest number after a beginning of strings, the order on terms, and tables.
+//! children, the greatest number after a beginning of strings, the order on terms, tables, and lists.
 #![tactic(auto)]
 
 pub mod annotations;
@@ -10,6 +10,7 @@ pub mod constructors;
 pub mod greatest;
 pub mod integers;
 pub mod laws;
+pub mod lists;
 pub mod operations;
 pub mod strings;
 pub mod tables;
@@ -19,6 +20,7 @@ pub use comparing::compare;
 pub use constructors::{explode_term, mkterm};
 pub use greatest::greatest_number;
 pub use integers::modi;
+pub use lists::{list_concat, list_index, list_length, list_lookup, list_reverse};
 pub use operations::{Extended, ExtendedOperation, TermOperation, extended_primitives};
 pub use strings::{explode_string, gts, implode_string};
 pub use tables::{table_get, table_keys, table_put, table_remove};

@@ -10,6 +10,7 @@ use crate::comparing::compare;
 use crate::constructors::{explode_term, mkterm};
 use crate::greatest::greatest_number;
 use crate::integers::modi;
+use crate::lists::{list_concat, list_index, list_length, list_lookup, list_reverse};
 use crate::strings::{explode_string, gts, implode_string};
 use crate::tables::{table_get, table_keys, table_put, table_remove};
 use prim_core::{
@@ -30,6 +31,11 @@ pub enum ExtendedOperation {
     TableGet,
     TableRemove,
     TableKeys,
+    ListLength,
+    ListReverse,
+    ListConcat,
+    ListIndex,
+    ListLookup,
 }
 
 /// One of the primitives that take owned terms.
@@ -55,7 +61,10 @@ pub enum TermOperation {
     GreatestNumber,
 }
 
-use ExtendedOperation::{Compare, OnTerms, TableGet, TableKeys, TablePut, TableRemove};
+use ExtendedOperation::{
+    Compare, ListConcat, ListIndex, ListLength, ListLookup, ListReverse, OnTerms, TableGet,
+    TableKeys, TablePut, TableRemove,
+};
 use TermOperation::{
     Addi, Divi, EqIgnoreAnnos, ExplodeString, ExplodeTerm, GreatestNumber, Gti, Gts, ImplodeString,
     IntToString, Mkterm, Modi, Muli, Strcat, StringToInt, StripAnnos, Strlen, Subti,
@@ -81,6 +90,11 @@ impl Operation for ExtendedOperation {
             TableGet => table_get(arguments),
             TableRemove => table_remove(alloc, arguments),
             TableKeys => table_keys(alloc, arguments),
+            ListLength => Ok(list_length(arguments)),
+            ListReverse => list_reverse(alloc, arguments),
+            ListConcat => list_concat(alloc, arguments),
+            ListIndex => Ok(list_index(arguments)),
+            ListLookup => list_lookup(arguments),
         }
     }
 }
@@ -158,6 +172,11 @@ pub fn extended_primitives(alloc: Global) -> Result<Vec<Primitive<Extended>>, No
     add(alloc, &mut primitives, b"table-get", 2, TableGet)?;
     add(alloc, &mut primitives, b"table-remove", 2, TableRemove)?;
     add(alloc, &mut primitives, b"table-keys", 1, TableKeys)?;
+    add(alloc, &mut primitives, b"list-length", 1, ListLength)?;
+    add(alloc, &mut primitives, b"list-reverse", 1, ListReverse)?;
+    add(alloc, &mut primitives, b"list-concat", 1, ListConcat)?;
+    add(alloc, &mut primitives, b"list-index", 2, ListIndex)?;
+    add(alloc, &mut primitives, b"list-lookup", 2, ListLookup)?;
     Ok(primitives)
 }
 
