@@ -76,7 +76,7 @@ TABLES = {
     "`table-put` and `table-get`": ('?ps; table-of => t; !ps; all({k: ?(k,_); prim("table-get",t,k)})', lambda n: listed(f"({it},0)" for it in shuffled(n))),
     "the same with strings": ('?ps; table-of => t; !ps; all({k: ?(k,_); prim("table-get",t,k)})', lambda n: listed(f'("x{it}",0)' for it in shuffled(n))),
     "`table-put` and `table-remove`": (
-        "?ps; table-of => t; !(ps,t); rec r(?([],_) <+ {k,qs,u: ?([(k,_)|qs],u); !(qs,<table-remove(|k)> u)}; r)",
+        "?ps; table-of => t; !(ps,t); rec r(?([],_) <+ {k,qs,u,w: ?([(k,_)|qs],u); <table-remove(|k)> u => w; !(qs,w)}; r)",
         lambda n: listed(f"({it},0)" for it in shuffled(n)),
     ),
 }
