@@ -13,7 +13,7 @@ const NAME = /^[A-Za-z_][A-Za-z0-9_\-+*$.']{0,63}$/;
 const RANGES = { steps: [1, 4000000000], 'max-steps': [1000000, 4000000000], 'max-terms': [100000, 1000000000] };
 
 /** What isn't done here, though the program has it. */
-const LACKS = ['profile', 'check'];
+const LACKS = ['profile', 'check', 'max-tokens'];
 
 /** The options that are taken, of all that the program has. */
 export const taken = options => options.filter(({ name }) => !LACKS.includes(name));

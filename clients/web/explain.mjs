@@ -12,7 +12,7 @@ const MEANINGS = {
   5: 'there is no tree of this name',
   6: 'there is no module of this name',
   7: 'the text spells no term',
-  8: 'the text is too deep: 1,000 brackets may be open at a place of a tree, and a strategy or module may have 4,000 tokens',
+  8: 'the text is too deep: 1,000 brackets may be open at a place of a tree, and a strategy, or a module, may have 4,000 tokens',
   9: 'the tree has no subterm at this path',
   10: 'the text is no strategy, or no module',
   11: 'a module has a fault',

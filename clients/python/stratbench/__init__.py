@@ -128,9 +128,9 @@ class Stratbench:
     `options` are further words of the command line, as `["--tree", "t=in.aterm"]`. It can be a context manager, which
     closes it.
 
-    `max_steps` is the greatest budget, from 1,000,000, which it is by default, to 4,000,000,000, and `max_terms` the greatest
-    size of a term that is set or built, from 100,000, which it is by default, to 1,000,000,000. With any other number the program ends
-    at once.
+    `max_steps` is the greatest budget, from 1,000,000, which it is by default, to 4,000,000,000, `max_terms` the greatest
+    size of a term that is set or built, from 100,000, which it is by default, to 1,000,000,000, and `max_tokens` the most tokens of a
+    module, from 4,000, which it is by default, to 65,535. With any other number the program ends at once.
 
         >>> bench = Stratbench(max_steps=2_000_000, max_terms=131_071)
         >>> bench.module("m", "rules Twice : x -> (x,x)")
@@ -139,7 +139,7 @@ class Stratbench:
         >>> bench.show("t", at=[1] * 16)
         'a'
 
-    An `embedded` session takes no options and no `seconds`, and isn't stopped by Ctrl-C; `stop` stops a call. The shared
+    An `embedded` session takes no options, no `seconds` and no `max_tokens`, and isn't stopped by Ctrl-C; `stop` stops a call. The shared
     object is `program`, or what the environment's STRATBENCH_LIBRARY names, or `libstratbench.so`. It is used by one thread at a
     time, but for `stop`.
 
@@ -168,6 +168,7 @@ class Stratbench:
         embedded: bool = False,
         max_steps: int | None = None,
         max_terms: int | None = None,
+        max_tokens: int | None = None,
     ) -> None:
         self.seconds = seconds
         self.warnings: list[Told] = []
@@ -176,15 +177,15 @@ class Stratbench:
         self._names = Names()
         self._process: Process | Embedded
         if embedded:
-            if options or seconds is not None:
-                raise ValueError("an embedded session takes no options and no seconds")
+            if options or seconds is not None or max_tokens is not None:
+                raise ValueError("an embedded session takes no options, no seconds and no max_tokens")
             limits = (_MOST_TERMS if max_terms is None else max_terms, _MOST_STEPS if max_steps is None else max_steps)
             self._process = Embedded(installed.library(program), library, _STEPS if steps is None else steps, limits)
             return
         words = [installed.program(program), *options]
         versions.check_program(words[0])
         words += ["--explain=json"] + ["--library"] * library
-        numbers = {"steps": steps, "max-steps": max_steps, "max-terms": max_terms}
+        numbers = {"steps": steps, "max-steps": max_steps, "max-terms": max_terms, "max-tokens": max_tokens}
         words += [f"--{option}={number}" for option, number in numbers.items() if number is not None]
         self._process = Process(words)
         self._answer("history")

@@ -223,6 +223,7 @@ def ends():
             ({"steps": 2_000_000}, 2, "'2000000' for '--steps <N>': the greatest budget is 1000000 (--max-steps raises it)"),
             ({"max_steps": 999_999}, 2, "'999999' for '--max-steps <N>': 999999 is not in 1000000..=4000000000"),
             ({"max_terms": -1}, 2, "'-1' for '--max-terms <N>': -1 is not in 100000..=1000000000"),
+            ({"max_tokens": 3999}, 2, "'3999' for '--max-tokens <N>': 3999 is not in 4000..=65535"),
         ]  # fmt: skip
         for given, status, said in starts:
             try:

@@ -1,12 +1,12 @@
 -- How the walk over the words treats a flag.
 use Rattle.std.proofs.Common.{◌≡◌, ◌⊎◌, ◌∙◌, ◌++◌, ap, refl, sym, subst, inl, inr, Bool, true, false, ℕ, zero, suc, List, [], ◌∷◌, Option, Some, None, codes, is_some, slice_get, cond}
-use Rattle.std.specs.Prelude.{⊤, ◌||◌, ◌&&◌, option_and_then, ◌==◌, not, drop, encode_utf8, find, fold, length}
+use Rattle.std.specs.Prelude.{⊤, ◌||◌, ◌&&◌, option_and_then, ◌==◌, not, drop, encode_utf8, find, fold, length, take}
 use Rattle.std.specs.Option.{option_map_or}
 use Rattle.std.specs.List.{filter, list_any}
 use Rattle.std.specs.Str.{bytes_eq, chars}
 use Rattle.std.proofs.lemmas.Slice.Eq.{bytes_eq-Decides}
 use Rattle.std.proofs.lemmas.List.Elements.{filter-append}
-use Rattle.command_line.specs.Line.{file_name, files_option, flag_of, given, line, max_steps_option, max_terms_option, steps_option}
+use Rattle.command_line.specs.Line.{file_name, files_option, flag_of, given, line, max_steps_option, max_terms_option, max_tokens_option, steps_option}
 use Rattle.clap.specs.declared.builder.value_parser.Reading.{Reading}
 use Rattle.clap.specs.declared.builder.value_parser.Reading.TheVariants.{AsWritten}
 use Rattle.clap.specs.declared.parser.matches.ValueSource.{ValueSource}
@@ -37,12 +37,15 @@ max_steps_rule = with_index 1 (filled max_steps_option)
 abbrev max_terms_rule : Rule
 max_terms_rule = with_index 1 (filled max_terms_option)
 
+abbrev max_tokens_rule : Rule
+max_tokens_rule = with_index 1 (filled max_tokens_option)
+
 abbrev file_rule : Rule
 file_rule = with_index 1 (filled file_name)
 
 -- the names of the arguments that are no flags
 abbrev option_names : List Text
-option_names = codes "steps" ∷ codes "max-steps" ∷ codes "max-terms" ∷ codes "module" ∷ codes "tree" ∷ codes "write" ∷ codes "file" ∷ codes "help" ∷ codes "version" ∷ []
+option_names = codes "steps" ∷ codes "max-steps" ∷ codes "max-terms" ∷ codes "max-tokens" ∷ codes "module" ∷ codes "tree" ∷ codes "write" ∷ codes "file" ∷ codes "help" ∷ codes "version" ∷ []
 
 abbrev is_option : Text → Bool
 is_option name = list_any (λ id. bytes_eq id name) option_names
@@ -213,7 +216,7 @@ module _ (flag : Text) where
   all_fit : is_option flag ≡ false → AllFit rules
   all_fit free =
       let is = each_other option_names free in
-      (flag_fits (codes "library") None, (other_fits steps_rule is.0 (λ values rows. refl), (other_fits max_steps_rule is.1.0 (λ values rows. refl), (other_fits max_terms_rule is.1.1.0 (λ values rows. refl), (flag_fits (codes "stop") None, (flag_fits (codes "lines") None, (flag_fits (codes "explain") None, (flag_fits (codes "profile") None, (flag_fits (codes "interactive") (Some 105), (more_fits (files_rule (codes "module")) is.1.1.1.0 (λ values rows. refl), (more_fits (files_rule (codes "tree")) is.1.1.1.1.0 (λ values rows. refl), (more_fits (files_rule (codes "write")) is.1.1.1.1.1.0 (λ values rows. refl), (flag_fits (codes "pretty") None, (flag_fits (codes "explain-json") None, (flag_fits (codes "check") None, (other_fits file_rule is.1.1.1.1.1.1.0 (λ values rows. refl), (request_fits (with_index 2 (filled help_rule)) is.1.1.1.1.1.1.1.0 (λ values rows. refl), (request_fits (with_index 2 (filled version_rule)) is.1.1.1.1.1.1.1.1.0 (λ values rows. refl), tt))))))))))))))))))
+      (flag_fits (codes "library") None, (other_fits steps_rule is.0 (λ values rows. refl), (other_fits max_steps_rule is.1.0 (λ values rows. refl), (other_fits max_terms_rule is.1.1.0 (λ values rows. refl), (other_fits max_tokens_rule is.1.1.1.0 (λ values rows. refl), (flag_fits (codes "stop") None, (flag_fits (codes "lines") None, (flag_fits (codes "explain") None, (flag_fits (codes "profile") None, (flag_fits (codes "interactive") (Some 105), (more_fits (files_rule (codes "module")) is.1.1.1.1.0 (λ values rows. refl), (more_fits (files_rule (codes "tree")) is.1.1.1.1.1.0 (λ values rows. refl), (more_fits (files_rule (codes "write")) is.1.1.1.1.1.1.0 (λ values rows. refl), (flag_fits (codes "pretty") None, (flag_fits (codes "explain-json") None, (flag_fits (codes "check") None, (other_fits file_rule is.1.1.1.1.1.1.1.0 (λ values rows. refl), (request_fits (with_index 2 (filled help_rule)) is.1.1.1.1.1.1.1.1.0 (λ values rows. refl), (request_fits (with_index 2 (filled version_rule)) is.1.1.1.1.1.1.1.1.1.0 (λ values rows. refl), tt)))))))))))))))))))
 
   -- ---- the rows at the end
 
@@ -281,6 +284,33 @@ module _ (flag : Text) where
   abbrev HasFlag : List Rule → Type 0
   HasFlag [] = ⊥
   HasFlag (a ∷ more) = (((short : Option ℕ) × (a ≡ flag_rule flag short)) × AllOthers more) ⊎ ((bytes_eq a.id flag ≡ false) × HasFlag more)
+
+  all_others : (more : List Rule) → list_any (λ (a : Rule). bytes_eq a.id flag) more ≡ false → AllOthers more
+  all_others [] none = tt
+  all_others (a ∷ more) none = go (bytes_eq a.id flag) refl none (λ rest. all_others more rest)
+    where
+      go : (b : Bool) → bytes_eq a.id flag ≡ b
+          → (b || list_any (λ (it : Rule). bytes_eq it.id flag) more) ≡ false
+          → (list_any (λ (it : Rule). bytes_eq it.id flag) more ≡ false → AllOthers more) → AllOthers (a ∷ more)
+      go true same e rec = cc
+      go false other e rec = (other, rec e)
+
+  has_at : (n : ℕ) (short : Option ℕ) (more : List Rule) → slice_get more n ≡ Some (flag_rule flag short)
+      → list_any (λ (a : Rule). bytes_eq a.id flag) (take n more) ≡ false
+      → list_any (λ (a : Rule). bytes_eq a.id flag) (drop (suc n) more) ≡ false → HasFlag more
+  has_at n short [] is before after = cc
+  has_at zero short (a ∷ more) is before after = inl ((short, some_is is), all_others more after)
+    where
+      some_is : Some a ≡ Some (flag_rule flag short) → a ≡ flag_rule flag short
+      some_is e = cc
+  has_at (suc n) short (a ∷ more) is before after =
+      go (bytes_eq a.id flag) refl before (λ rest. has_at n short more is rest after)
+    where
+      go : (b : Bool) → bytes_eq a.id flag ≡ b
+          → (b || list_any (λ (it : Rule). bytes_eq it.id flag) (take n more)) ≡ false
+          → (list_any (λ (it : Rule). bytes_eq it.id flag) (take n more) ≡ false → HasFlag more) → HasFlag (a ∷ more)
+      go true same e rec = cc
+      go false other e rec = inr (other, rec e)
 
   stays_settled : (more : List Rule) (rows : List Row) → AllOthers more → IsSettled rows → IsSettled (fold with_default rows more)
   stays_settled [] rows others is = is
@@ -545,41 +575,38 @@ abbrev IsReadAsGiven : Text → Type 0
 IsReadAsGiven flag = (words : List Text) (found : Bool) → (one_of flag (given words) ≡ Some (codes "true") → found ≡ true)
     → (one_of flag (given words) ≡ Some (codes "false") → found ≡ false) → found ≡ is_given flag (given words)
 
-by_settling : (flag : Text) → is_option flag ≡ false → HasFlag flag rules → IsReadAsGiven flag
-by_settling flag free has = flag_is_given flag (all_fit flag free) (λ rows good. settles flag rules rows has good)
+-- Number n of the rules is the flag, and no other one has its name.
+by_place : (flag : Text) (n : ℕ) (short : Option ℕ) → is_option flag ≡ false
+    → slice_get rules n ≡ Some (flag_rule flag short)
+    → list_any (λ (a : Rule). bytes_eq a.id flag) (take n rules) ≡ false
+    → list_any (λ (a : Rule). bytes_eq a.id flag) (drop (suc n) rules) ≡ false → IsReadAsGiven flag
+by_place flag n short free is before after =
+    flag_is_given flag (all_fit flag free)
+    (λ rows good. settles flag rules rows (has_at flag n short rules is before after) good)
 
 pub library_is_given : IsReadAsGiven (codes "library")
-library_is_given = by_settling (codes "library") refl
-    (inl ((None, refl), (refl, (refl, (refl, (refl, (refl, (refl, (refl, (refl, (refl, (refl, (refl, (refl, (refl, (refl, (refl, (refl, (refl, tt)))))))))))))))))))
+library_is_given = by_place (codes "library") 0 None refl refl refl refl
 
 pub stop_is_given : IsReadAsGiven (codes "stop")
-stop_is_given = by_settling (codes "stop") refl
-    (inr (refl, inr (refl, inr (refl, inr (refl, inl ((None, refl), (refl, (refl, (refl, (refl, (refl, (refl, (refl, (refl, (refl, (refl, (refl, (refl, (refl, tt)))))))))))))))))))
+stop_is_given = by_place (codes "stop") 5 None refl refl refl refl
 
 pub lines_is_given : IsReadAsGiven (codes "lines")
-lines_is_given = by_settling (codes "lines") refl
-    (inr (refl, inr (refl, inr (refl, inr (refl, inr (refl, inl ((None, refl), (refl, (refl, (refl, (refl, (refl, (refl, (refl, (refl, (refl, (refl, (refl, (refl, tt)))))))))))))))))))
+lines_is_given = by_place (codes "lines") 6 None refl refl refl refl
 
 pub explain_is_given : IsReadAsGiven (codes "explain")
-explain_is_given = by_settling (codes "explain") refl
-    (inr (refl, inr (refl, inr (refl, inr (refl, inr (refl, inr (refl, inl ((None, refl), (refl, (refl, (refl, (refl, (refl, (refl, (refl, (refl, (refl, (refl, (refl, tt)))))))))))))))))))
+explain_is_given = by_place (codes "explain") 7 None refl refl refl refl
 
 pub profile_is_given : IsReadAsGiven (codes "profile")
-profile_is_given = by_settling (codes "profile") refl
-    (inr (refl, inr (refl, inr (refl, inr (refl, inr (refl, inr (refl, inr (refl, inl ((None, refl), (refl, (refl, (refl, (refl, (refl, (refl, (refl, (refl, (refl, (refl, tt)))))))))))))))))))
+profile_is_given = by_place (codes "profile") 8 None refl refl refl refl
 
 pub interactive_is_given : IsReadAsGiven (codes "interactive")
-interactive_is_given = by_settling (codes "interactive") refl
-    (inr (refl, inr (refl, inr (refl, inr (refl, inr (refl, inr (refl, inr (refl, inr (refl, inl ((Some 105, refl), (refl, (refl, (refl, (refl, (refl, (refl, (refl, (refl, (refl, tt)))))))))))))))))))
+interactive_is_given = by_place (codes "interactive") 9 (Some 105) refl refl refl refl
 
 pub pretty_is_given : IsReadAsGiven (codes "pretty")
-pretty_is_given = by_settling (codes "pretty") refl
-    (inr (refl, inr (refl, inr (refl, inr (refl, inr (refl, inr (refl, inr (refl, inr (refl, inr (refl, inr (refl, inr (refl, inr (refl, inl ((None, refl), (refl, (refl, (refl, (refl, (refl, tt)))))))))))))))))))
+pretty_is_given = by_place (codes "pretty") 13 None refl refl refl refl
 
 pub explain_json_is_given : IsReadAsGiven (codes "explain-json")
-explain_json_is_given = by_settling (codes "explain-json") refl
-    (inr (refl, inr (refl, inr (refl, inr (refl, inr (refl, inr (refl, inr (refl, inr (refl, inr (refl, inr (refl, inr (refl, inr (refl, inr (refl, inl ((None, refl), (refl, (refl, (refl, (refl, tt)))))))))))))))))))
+explain_json_is_given = by_place (codes "explain-json") 14 None refl refl refl refl
 
 pub check_is_given : IsReadAsGiven (codes "check")
-check_is_given = by_settling (codes "check") refl
-    (inr (refl, inr (refl, inr (refl, inr (refl, inr (refl, inr (refl, inr (refl, inr (refl, inr (refl, inr (refl, inr (refl, inr (refl, inr (refl, inr (refl, inl ((None, refl), (refl, (refl, (refl, tt)))))))))))))))))))
+check_is_given = by_place (codes "check") 15 None refl refl refl refl

@@ -320,7 +320,7 @@ usual_text (r ∷ rs) all none = go (bytes_eq r.id own_id) refl none (λ rest. u
 
 own_defaults : OwnDefaults rules
 own_defaults =
-    (λ e. cc, (λ e. cc, (λ e. inr refl, (λ e. cc, (λ e. cc, (λ e. cc, (λ e. cc, (λ e. cc, (λ e. cc, (tt, (tt, (tt, (λ e. cc, (λ e. cc, (λ e. cc, (tt, (tt, (tt, tt))))))))))))))))))
+    (λ e. cc, (λ e. cc, (λ e. inr refl, (λ e. cc, (λ e. cc, (λ e. cc, (λ e. cc, (λ e. cc, (λ e. cc, (λ e. cc, (tt, (tt, (tt, (λ e. cc, (λ e. cc, (λ e. cc, (tt, (tt, (tt, tt)))))))))))))))))))
 
 -- Where `--max-steps` isn't given, the greatest budget is 1,000,000.
 pub usual_most : (words : List Text) → is_given own_id (given words) ≡ false → most_steps_of (given words) ≡ 1000000

@@ -34,6 +34,9 @@ max_steps_option = number_option (codes "max-steps") 1000000 4000000000 (codes "
 abbrev pub max_terms_option : Rule
 max_terms_option = number_option (codes "max-terms") 100000 1000000000 (codes "100000")
 
+abbrev pub max_tokens_option : Rule
+max_tokens_option = number_option (codes "max-tokens") 4000 65535 (codes "4000")
+
 -- a flag of this name
 abbrev pub flag_of : Text → Rule
 flag_of name = record (new_rule name) { long = Some name; action = Some SetTrue }
@@ -55,8 +58,8 @@ named_app = on_top (λ s. record s { has_version = true }) (new_app (codes "stra
 
 abbrev pub line : App
 line = fold with_rule named_app
-    (flag_of (codes "library") ∷ steps_option ∷ max_steps_option ∷ max_terms_option ∷ flag_of (codes "stop") ∷ flag_of (codes "lines") ∷ flag_of (codes "explain")
-    ∷ flag_of (codes "profile") ∷ interactive_flag ∷ files_option (codes "module") ∷ files_option (codes "tree") ∷ files_option (codes "write")
+    (flag_of (codes "library") ∷ steps_option ∷ max_steps_option ∷ max_terms_option ∷ max_tokens_option ∷ flag_of (codes "stop") ∷ flag_of (codes "lines")
+    ∷ flag_of (codes "explain") ∷ flag_of (codes "profile") ∷ interactive_flag ∷ files_option (codes "module") ∷ files_option (codes "tree") ∷ files_option (codes "write")
     ∷ flag_of (codes "pretty") ∷ flag_of (codes "explain-json") ∷ flag_of (codes "check") ∷ file_name
     ∷ [])
 
@@ -86,6 +89,9 @@ most_steps_of rows = number_in 1000000 4000000000 1000000 (one_of (codes "max-st
 
 abbrev pub most_terms_of : List Row → ℕ
 most_terms_of rows = number_in 100000 1000000000 100000 (one_of (codes "max-terms") rows)
+
+abbrev pub most_tokens_of : List Row → ℕ
+most_tokens_of rows = number_in 4000 65535 4000 (one_of (codes "max-tokens") rows)
 
 -- ---- NAME=FILE
 

@@ -8,7 +8,7 @@ ghost use Rattle.script_text.specs.declared.framing.Framing.TheVariants.{Continu
 ghost use Rattle.term_core.specs.declared.TheConstants.{MAX_ROOM, MAX_SIZE};
 ghost use Rattle.session_history.specs.declared.TheConstants.{MAX_BUDGET, MOST_STEPS};
 ghost use Rattle.clap.specs.declared.error.kind.ErrorKind.TheVariants.{ValueValidation};
-ghost use Rattle.command_line.specs.Line.{are_named_all, as_given, budget_of, file_name, files_option, flag_of, given, interactive_flag, line, line_fault, max_steps_option, max_terms_option, modules_of, most_steps_of, most_terms_of, steps_option, trees_of, values};
+ghost use Rattle.command_line.specs.Line.{are_named_all, as_given, budget_of, file_name, files_option, flag_of, given, interactive_flag, line, line_fault, max_steps_option, max_terms_option, max_tokens_option, modules_of, most_steps_of, most_terms_of, most_tokens_of, steps_option, trees_of, values};
 ghost use Rattle.command_line.specs.inside.Malformed.{IfMalformed};
 ghost use Rattle.command_line.specs.inside.Numbers.{Spells};
 
@@ -17,7 +17,7 @@ use crate::named::{Load, Named, Untaken, in_order, read_all};
 use clap::error::ErrorKind;
 use clap::{Arg, ArgAction, ArgMatches, Command, Error, value_parser};
 use script_text::Framing;
-use session_history::{Limits, MAX_BUDGET, MOST_STEPS};
+use session_history::{Limits, MAX_BUDGET, MOST_STEPS, MOST_TOKENS, USUAL_TOKENS};
 use std::alloc::{AllocError, Global};
 use std::convert::AsStr;
 use term_core::{MAX_ROOM, MAX_SIZE};
@@ -49,6 +49,8 @@ pub struct CommandLine<'a> {
     pub max_steps: u32,
     /// The greatest size of a term, from 100,000 to 1,000,000,000.
     pub max_terms: u32,
+    /// The greatest number of tokens of a module, from 4,000 to 65,535.
+    pub max_tokens: u32,
     /// Whether the run ends after the first refused command.
     pub stop: bool,
     /// Whether each line of the script is a command.
@@ -88,11 +90,14 @@ impl CommandLine<'_> {
 
     /// The limits of the session.
     pub fn limits(&self) -> Limits
-        ensures { (result.max_terms ≡ self.now.max_terms) × (result.max_steps ≡ self.now.max_steps) }
+        ensures terms { result.max_terms ≡ self.now.max_terms }
+        ensures steps { result.max_steps ≡ self.now.max_steps }
+        ensures tokens { result.max_tokens ≡ self.now.max_tokens }
     {
         Limits {
             max_terms: self.max_terms,
             max_steps: self.max_steps,
+            max_tokens: self.max_tokens,
         }
     }
 
@@ -122,6 +127,8 @@ pub fn arguments<'a, S: AsStr>(alloc: Global, words: &'a [S]) -> Result<CommandL
         → arguments.max_steps ≡ MAX_BUDGET) }
     ensures max_terms { IfOk result (λ arguments. arguments.max_terms
         ≡ most_terms_of (given (map S.text words.now))) }
+    ensures max_tokens { IfOk result (λ arguments. arguments.max_tokens
+        ≡ most_tokens_of (given (map S.text words.now))) }
     ensures file { IfOk result (λ arguments. option_map (λ name. name.now) arguments.file
         ≡ first_of (codes "file") (given (map S.text words.now))) }
     ensures library { IfOk result (λ arguments. arguments.library
@@ -168,6 +175,13 @@ pub fn arguments<'a, S: AsStr>(alloc: Global, words: &'a [S]) -> Result<CommandL
             budget,
             max_steps,
             max_terms: number_of(&matches, "max-terms", MAX_SIZE, MAX_ROOM, MAX_SIZE),
+            max_tokens: number_of(
+                &matches,
+                "max-tokens",
+                USUAL_TOKENS,
+                MOST_TOKENS,
+                USUAL_TOKENS,
+            ),
             stop: matches.get_flag("stop"),
             lines: matches.get_flag("lines"),
             explain: matches.get_flag("explain"),
@@ -260,6 +274,7 @@ fn command<'a>(alloc: Global) -> Result<Command<'a>, AllocError>
         .arg(steps_option(alloc))?
         .arg(max_steps_option(alloc))?
         .arg(max_terms_option(alloc))?
+        .arg(max_tokens_option(alloc))?
         .arg(flag(
             alloc,
             "stop",
@@ -370,6 +385,20 @@ fn max_terms_option<'a>(alloc: Global) -> Arg<'a>
         .value_parser(value_parser!(u32).range(MAX_SIZE as i64..=MAX_ROOM as i64))
         .default_value("100000")
         .help("The most terms in one that is set or built, up to 1,000,000,000")
+}
+
+fn max_tokens_option<'a>(alloc: Global) -> Arg<'a>
+    ensures rule { rule_of result ≡ max_tokens_option }
+    ensures local { result.global ≡ false }
+{
+    Arg::new(alloc, "max-tokens")
+        .long("max-tokens")
+        .value_name("N")
+        .value_parser(value_parser!(u32).range(USUAL_TOKENS as i64..=MOST_TOKENS as i64))
+        .default_value("4000")
+        .help(
+            "The most tokens of a module, up to 65,535; none of its items may have more than 4,000",
+        )
 }
 
 fn files_option<'a>(alloc: Global, name: &'a str, help: &'a str) -> Arg<'a>

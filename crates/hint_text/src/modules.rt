@@ -11,7 +11,8 @@ use strategy_check::NamedModule;
 use strategy_parse::{ParseFault, bytes_of, parse_module};
 use strategy_syntax::{Constructor, Definition, Module, Place};
 use strategy_tokens::{
-    Sign, Token, TokenPlace, TokensFault, is_mark, read_tokens, token_count, token_place,
+    MODULE_TOKENS, Sign, Token, TokenPlace, TokensFault, is_mark, read_module_tokens, token_count,
+    token_place,
 };
 use term_core::{Label, Name, NoMemory};
 
@@ -141,7 +142,7 @@ impl<'a> ModuleTexts<'a> {
 
     fn push_read(&mut self, wanted: &WantedText<'a>) -> Result<(), NoMemory> {
         let alloc = *self.texts.allocator();
-        match parse_module(alloc, wanted.text) {
+        match parse_module(alloc, wanted.text, MODULE_TOKENS) {
             Ok(module) => {
                 let module = NamedModule::new(alloc, wanted.name.try_clone()?, module)?;
                 self.read.push(module)?;
@@ -237,7 +238,7 @@ pub fn missing_modules<M: Meaning>(
         if let Some(text) = ground.history.module_text(name)
             && kept_module(ground, &[], name, text).is_none()
         {
-            match read_module(alloc, name, text) {
+            match read_module(alloc, name, text, MODULE_TOKENS) {
                 Ok(read) => missing.push(read)?,
                 Err(refusal) => {
                     if let Refusal::Memory = refusal {
@@ -332,16 +333,16 @@ pub fn declaring<'a>(
 
 /// The module that the text is; an empty one if it is none.
 pub fn module_of(alloc: Global, text: &[u8]) -> Result<Module, NoMemory> {
-    match parse_module(alloc, text) {
+    match parse_module(alloc, text, MODULE_TOKENS) {
         Ok(module) => Ok(module),
         Err(ParseFault::Memory) => Err(NoMemory),
         Err(_) => Ok(Module::new(Vec::new(alloc), Vec::new(alloc))),
     }
 }
 
-/// The tokens of a text; none if it has more than 4,000.
+/// The tokens of a text; none if it has more than any module.
 pub fn tokens_of(alloc: Global, text: &[u8]) -> Result<Vec<Token>, NoMemory> {
-    match read_tokens(alloc, text) {
+    match read_module_tokens(alloc, text, MODULE_TOKENS) {
         Ok(tokens) => Ok(tokens),
         Err(TokensFault::Deep) => Ok(Vec::new(alloc)),
         Err(TokensFault::Memory) => Err(NoMemory),

@@ -6,7 +6,7 @@ use diagnostic::{Fill, say};
 use hint_text::token_of;
 use script_text::MAX_COMMAND;
 use session_history::{MOST_STEPS, Refusal, Timeline};
-use strategy_tokens::{MAX_TOKENS, token_count};
+use strategy_tokens::{MAX_TOKENS, MODULE_TOKENS, long_item, token_count};
 use term_core::{MAX_HEIGHT, MAX_ROOM, NoMemory, Term};
 
 impl Explainer<'_, '_> {
@@ -64,20 +64,38 @@ impl Explainer<'_, '_> {
     // Refusal 8: how deep the term is, or how many tokens the text has.
     fn explain_deep(&mut self) {
         let text = self.parts.text;
-        let (count, most, start) = if self.parts.is_module() || self.parts.is_strategy() {
+        if self.parts.is_module() {
+            self.explain_many_tokens(text);
+            return;
+        }
+        let (sentence, count, most, start) = if self.parts.is_strategy() {
             let start = token_of(text, MAX_TOKENS as usize).1;
-            (token_count(text), MAX_TOKENS, start)
+            let sentence = "the strategy has {} tokens, and may have {}";
+            (sentence, token_count(text), MAX_TOKENS, start)
         } else {
-            (nesting(text), MAX_NESTING, deep_place(text))
-        };
-        let sentence = if self.parts.is_module() {
-            "the module has {} tokens, and may have {}"
-        } else if self.parts.is_strategy() {
-            "the strategy has {} tokens, and may have {}"
-        } else {
-            "{} brackets are open at one place, and {} may be"
+            let sentence = "{} brackets are open at one place, and {} may be";
+            (sentence, nesting(text), MAX_NESTING, deep_place(text))
         };
         say!(self.hint; sentence, Fill::Number(count), Fill::Number(most));
+        self.say_at("; the first too many is at {}", start);
+    }
+
+    // The tokens of a module: those of an item if one has too many, which no option allows.
+    fn explain_many_tokens(&mut self, text: &[u8]) {
+        let start = if let Some(number) = long_item(text) {
+            let most = Fill::Number(MAX_TOKENS);
+            say!(self.hint; "an item of the module has more than {} tokens", most);
+            token_of(text, number).1
+        } else {
+            let most = u64::from(self.limits.max_tokens).clamp(MAX_TOKENS, MODULE_TOKENS);
+            let raises = Fill::Words(if most < MODULE_TOKENS {
+                " (the program's `--max-tokens` raises that)"
+            } else {
+                ""
+            });
+            say!(self.hint; "the module has {} tokens, and may have {}{}", Fill::Number(token_count(text)), Fill::Number(most), raises);
+            token_of(text, most as usize).1
+        };
         self.say_at("; the first too many is at {}", start);
     }
 

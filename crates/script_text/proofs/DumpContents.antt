@@ -18,7 +18,7 @@ use Rattle.term_core.specs.Word.{label_of}
 use Rattle.term_core.specs.declared.TheConstants.{MAX_HEIGHT}
 use Rattle.strategy_syntax.specs.Modules.{Module}
 use Rattle.term_changes.specs.Contents.{Named, Contents}
-use Rattle.session_modules.specs.Modules.{ReadsAsModule, AreReadable}
+use Rattle.session_modules.specs.Modules.{ReadsAsModuleOf, AreReadable}
 use Rattle.session_history.specs.History.{AreLow}
 use Rattle.session_history.specs.Dump.{tree_line, module_line, module_lines, grouped, dumped, IsNamedTerm}
 use Rattle.session_modules.proofs.MapLemmas.{R, later, earlier, tied, find_below, all_there}
@@ -74,10 +74,10 @@ pub record IsGiven (e : TreeEntry) : Type 0 where
   pub low : height e.1 ≤ MAX_HEIGHT
 
 -- a module that can be restored
-pub record IsTold (framing : Framing) (e : TextEntry) : Type 0 where
+pub record IsTold (framing : Framing) (most : ℕ) (e : TextEntry) : Type 0 where
   pub label : label_of e.0 ≡ Some e.0
   pub text : IsCommandText framing e.1
-  pub reads : (m : Module) × ReadsAsModule e.1 (Ok m)
+  pub reads : (m : Module) × ReadsAsModuleOf most e.1 (Ok m)
 
 -- the modules by their entries, in a group if there are any
 abbrev pub group_text : List TextEntry → List ℕ
@@ -101,21 +101,21 @@ module _ (c : Contents) where
   pub trees_given : AllByRecursion (IsNamedTerm c) (finmap.keys c.trees) → AreLow c.trees → AllByRecursion IsGiven (entries c.trees)
   trees_given n s = given (entries c.trees) (all_there c.trees) n s
 
-  told : (framing : Framing) (es : List TextEntry) → AllByRecursion (λ e. finmap.get c.modules e.0 ≡ Some e.1) es → AllByRecursion (λ name. label_of name ≡ Some name) (map (λ e. e.0) es) → AreReadable c.modules →
-      ((name : List ℕ) → IfSome (finmap.get c.modules name) (IsCommandText framing)) → AllByRecursion (IsTold framing) es
-  told framing [] h n s t = tt
-  told framing (e ∷ es) h n s t = (
+  told : (framing : Framing) (most : ℕ) (es : List TextEntry) → AllByRecursion (λ e. finmap.get c.modules e.0 ≡ Some e.1) es → AllByRecursion (λ name. label_of name ≡ Some name) (map (λ e. e.0) es) → AreReadable most c.modules →
+      ((name : List ℕ) → IfSome (finmap.get c.modules name) (IsCommandText framing)) → AllByRecursion (IsTold framing most) es
+  told framing most [] h n s t = tt
+  told framing most (e ∷ es) h n s t = (
     record {
       label = n.0;
       text = subst (λ (o : Option (List ℕ)). IfSome o (IsCommandText framing)) h.0 (t e.0);
-      reads = subst (λ (o : Option (List ℕ)). IfSome o (λ text. (m : Module) × ReadsAsModule text (Ok m))) h.0 (s e.0);
+      reads = subst (λ (o : Option (List ℕ)). IfSome o (λ text. (m : Module) × ReadsAsModuleOf most text (Ok m))) h.0 (s e.0);
     },
-    told framing es h.1 n.1 s t,
+    told framing most es h.1 n.1 s t,
   )
 
-  pub modules_told : (framing : Framing) → AllByRecursion (λ name. label_of name ≡ Some name) (finmap.keys c.modules) → AreReadable c.modules → ((name : List ℕ) → IfSome (finmap.get c.modules name) (IsCommandText framing)) →
-      AllByRecursion (IsTold framing) (entries c.modules)
-  modules_told framing n s t = told framing (entries c.modules) (all_there c.modules) n s t
+  pub modules_told : (framing : Framing) (most : ℕ) → AllByRecursion (λ name. label_of name ≡ Some name) (finmap.keys c.modules) → AreReadable most c.modules → ((name : List ℕ) → IfSome (finmap.get c.modules name) (IsCommandText framing)) →
+      AllByRecursion (IsTold framing most) (entries c.modules)
+  modules_told framing most n s t = told framing most (entries c.modules) (all_there c.modules) n s t
 
   trees_text : (es : List TreeEntry) → AllByRecursion (λ e. finmap.get c.trees e.0 ≡ Some e.1) es →
       flat_map (λ name. option_map_or (tree_line name) (finmap.get c.trees name) []) (map (λ e. e.0) es) ≡ flat_map (λ e. tree_line e.0 e.1) es

@@ -67,16 +67,18 @@ trees_after h (e ∷ es) = trees_after (changed (with_tree h.now e.0 e.1) h) es
 
 record HasTrees (es : List TreeEntry) (h g : History) : Type 0 where
   now : g.now ≡ record h.now { trees = inserted h.now.trees es }
+  limits : g.limits ≡ h.limits
   primitives : g.primitives ≡ h.primitives
   group : g.group ≡ None
 
 has_trees : (es : List TreeEntry) (h : History) → h.group ≡ None → HasTrees es h (trees_after h es)
-has_trees [] h none = record { now = refl; primitives = refl; group = none }
+has_trees [] h none = record { now = refl; limits = refl; primitives = refl; group = none }
 has_trees (e ∷ es) h none =
     let c : Contents = with_tree h.now e.0 e.1 in
     let rest = has_trees es (changed c h) (outside-changed c h none) in
     record {
       now = rest.now ∙ ap (λ (c : Contents). record c { trees = inserted c.trees es }) (now-changed c h);
+      limits = rest.limits ∙ limits-changed c h;
       primitives = rest.primitives ∙ primitives-changed c h;
       group = rest.group;
     }
@@ -193,17 +195,21 @@ module _ (meaning : Meaning) (budget : ℕ) where
   abbrev module_commands : List TextEntry → List (List ℕ)
   module_commands es = map (λ e. module_command e.0 e.1) es
 
-  module_said : (framing : Framing) (e : TextEntry) → IsTold framing e → (h : History) (g : HistoryGroup) → h.group ≡ Some g → ReplyTo meaning budget (text (module_command e.0 e.1)) h (Ok (ok_with (changed (with_module h.now e.0 e.1) h)))
-  module_said framing e t h g some =
+  module_said : (framing : Framing) (e : TextEntry) (h : History) (g : HistoryGroup) → IsTold framing h.limits.max_tokens e → h.group ≡ Some g → ReplyTo meaning budget (text (module_command e.0 e.1)) h (Ok (ok_with (changed (with_module h.now e.0 e.1) h)))
+  module_said framing e h g t some =
       let k : History = changed (with_module h.now e.0 e.1) h in
       said (module_command e.0 e.1) (set_module e.0 e.1) h (Ok (ok_with k)) (module_command-is framing (budgets_in h budget) e.0 e.1 t.label t.text)
       (Ok k, (Ok t.reads.0, t.reads.1, subst (λ (o : Option HistoryGroup). ChangesModules o (with_module h.now e.0 e.1) h (Ok k)) (sym some) refl), refl)
 
-  modules_said : (framing : Framing) (es : List TextEntry) → AllByRecursion (IsTold framing) es → (h : History) (g : HistoryGroup) → h.group ≡ Some g → Oks (module_commands es) h (modules_after h es)
-  modules_said framing [] t h g some = refl
-  modules_said framing (e ∷ es) t h g some =
-      let c : Contents = with_module h.now e.0 e.1 in
-      (changed c h, module_said framing e t.0 h g some, modules_said framing es t.1 (changed c h) (record g { changed = true }) (inside-changed c h g some))
+  modules_said : (framing : Framing) (es : List TextEntry) (h : History) (g : HistoryGroup) → AllByRecursion (IsTold framing h.limits.max_tokens) es → h.group ≡ Some g → Oks (module_commands es) h (modules_after h es)
+  modules_said framing [] h g t some = refl
+  modules_said framing (e ∷ es) h g t some =
+      let c : Contents = with_module h.now e.0 e.1 in (
+        changed c h,
+        module_said framing e h g t.0 some,
+        modules_said framing es (changed c h) (record g { changed = true })
+            (subst (λ (l : Limits). AllByRecursion (IsTold framing l.max_tokens) es) (sym (limits-changed c h)) t.1) (inside-changed c h g some),
+      )
 
   begin_said : (h : History) → h.group ≡ None → ReplyTo meaning budget (text (codes "begin")) h (Ok (ok_with (record h { group = Some (record { begun = h.now; changed = false }) })))
   begin_said h none =
@@ -230,9 +236,9 @@ module _ (meaning : Meaning) (budget : ℕ) where
     oks : Oks (group_commands es) h last
     now : last.now ≡ record h.now { modules = inserted h.now.modules es }
 
-  group_said : (framing : Framing) (es : List TextEntry) → AllByRecursion (IsTold framing) es → (h : History) → h.group ≡ None → Finds h.primitives (inserted h.now.modules es) None → IsGrouped es h
-  group_said framing [] t h none finds = record { last = h; oks = refl; now = refl }
-  group_said framing (e ∷ es) t h none finds =
+  group_said : (framing : Framing) (es : List TextEntry) (h : History) → AllByRecursion (IsTold framing h.limits.max_tokens) es → h.group ≡ None → Finds h.primitives (inserted h.now.modules es) None → IsGrouped es h
+  group_said framing [] h t none finds = record { last = h; oks = refl; now = refl }
+  group_said framing (e ∷ es) h t none finds =
       let g : HistoryGroup = record { begun = h.now; changed = false } in
       let begun : History = record h { group = Some g } in
       let left = has_modules (e ∷ es) begun g refl in
@@ -244,7 +250,7 @@ module _ (meaning : Meaning) (budget : ℕ) where
         oks = (
           begun,
           begin_said h none,
-          oks-append (module_commands (e ∷ es)) (codes "commit" ∷ []) begun k (committed left.open_group k) (modules_said framing (e ∷ es) t begun g refl)
+          oks-append (module_commands (e ∷ es)) (codes "commit" ∷ []) begun k (committed left.open_group k) (modules_said framing (e ∷ es) begun g t refl)
               (committed left.open_group k, commit_said k left.open_group left.group found, refl),
         );
         now = now-committed left.open_group k ∙ left.now;
@@ -317,14 +323,14 @@ All-front : {X : Type 0} (P : X → Type 0) (xs ys : List X) → AllByRecursion 
 All-front P [] ys h = tt
 All-front P (x ∷ xs) ys h = (h.0, All-front P xs ys h.1)
 
-modules_whole : (framing : Framing) (es : List TextEntry) → AllByRecursion (IsTold framing) es → AllByRecursion (IsWhole framing) (map (λ e. module_command e.0 e.1) es)
-modules_whole framing [] t = tt
-modules_whole framing (e ∷ es) t = (module_whole e.0 t.0.label framing e.1 t.0.text, modules_whole framing es t.1)
+modules_whole : (framing : Framing) (most : ℕ) (es : List TextEntry) → AllByRecursion (IsTold framing most) es → AllByRecursion (IsWhole framing) (map (λ e. module_command e.0 e.1) es)
+modules_whole framing most [] t = tt
+modules_whole framing most (e ∷ es) t = (module_whole e.0 t.0.label framing e.1 t.0.text, modules_whole framing most es t.1)
 
-group_whole : (framing : Framing) (meaning : Meaning) (budget : ℕ) (es : List TextEntry) → AllByRecursion (IsTold framing) es → AllByRecursion (IsWhole framing) (group_commands meaning budget es)
-group_whole framing meaning budget [] t = tt
-group_whole framing meaning budget (e ∷ es) t =
-    (begin_whole framing, All-append-rec (IsWhole framing) (map (λ e. module_command e.0 e.1) (e ∷ es)) (codes "commit" ∷ []) (modules_whole framing (e ∷ es) t) (commit_whole framing, tt))
+group_whole : (framing : Framing) (most : ℕ) (meaning : Meaning) (budget : ℕ) (es : List TextEntry) → AllByRecursion (IsTold framing most) es → AllByRecursion (IsWhole framing) (group_commands meaning budget es)
+group_whole framing most meaning budget [] t = tt
+group_whole framing most meaning budget (e ∷ es) t =
+    (begin_whole framing, All-append-rec (IsWhole framing) (map (λ e. module_command e.0 e.1) (e ∷ es)) (codes "commit" ∷ []) (modules_whole framing most (e ∷ es) t) (commit_whole framing, tt))
 
 as_text : (x : List ℕ) → IsShort x → handed_as x ≡ text x
 as_text x h = ap (λ (b : Bool). if b then long else text x) (le-ltb MAX_COMMAND (length x) h)
@@ -338,15 +344,15 @@ module _ (back : PrintedTextReadsBack) (oneline : PrintedTextIsOneLine) (nests :
   trees_whole framing [] g = tt
   trees_whole framing (e ∷ es) g = (tree_whole framing e.0 (print e.1) (record { label = g.0.label; line = oneline e.1 g.0.term }), trees_whole framing es g.1)
 
-  module _ (meaning : Meaning) (framing : Framing) (budget : ℕ) (c : Contents) (h : History) (can : CanBeGiven framing h.primitives c) where
+  module _ (meaning : Meaning) (framing : Framing) (budget : ℕ) (c : Contents) (h : History) (can : CanBeGiven framing h.limits.max_tokens h.primitives c) where
     abbrev all_commands : List (List ℕ)
     all_commands = map (λ e. tree_command e.0 (print e.1)) (entries c.trees) ++ group_commands meaning budget (entries c.modules)
 
     trees : AllByRecursion IsGiven (entries c.trees)
     trees = trees_given c can.named.0 can.sound.0.0
 
-    modules : AllByRecursion (IsTold framing) (entries c.modules)
-    modules = modules_told c framing can.named.1 can.sound.0.1 can.texts
+    modules : AllByRecursion (IsTold framing h.limits.max_tokens) (entries c.modules)
+    modules = modules_told c framing h.limits.max_tokens can.named.1 can.sound.0.1 can.texts
 
     text-is : dumped c ≡ script_of all_commands
     text-is =
@@ -358,7 +364,7 @@ module _ (back : PrintedTextReadsBack) (oneline : PrintedTextIsOneLine) (nests :
         ap (commands framing) text-is
         ∙ commands-script framing all_commands
         (All-append-rec (IsWhole framing) (map (λ e. tree_command e.0 (print e.1)) (entries c.trees)) (group_commands meaning budget (entries c.modules)) (trees_whole framing (entries c.trees) trees)
-        (group_whole framing meaning budget (entries c.modules) modules))
+        (group_whole framing h.limits.max_tokens meaning budget (entries c.modules) modules))
 
     short : AllByRecursion IsShort all_commands
     short = subst (λ (cs : List (List ℕ)). AllByRecursion IsShort cs) commands-are can.short
@@ -379,7 +385,8 @@ module _ (back : PrintedTextReadsBack) (oneline : PrintedTextIsOneLine) (nests :
         let bare_now : k.now ≡ record { trees = c.trees; modules = finmap.empty } =
         left.now ∙ ap (λ (d : Contents). record d { trees = inserted d.trees (entries c.trees) }) bare.contents ∙ ap (λ m. record { trees = m; modules = finmap.empty }) (inserted-all c.trees) in
         let all : inserted k.now.modules (entries c.modules) ≡ c.modules = ap (λ (d : Contents). inserted d.modules (entries c.modules)) bare_now ∙ inserted-all c.modules in
-        let grouped = group_said meaning budget framing (entries c.modules) modules k left.group
+        let grouped = group_said meaning budget framing (entries c.modules) k
+        (subst (λ (l : Limits). AllByRecursion (IsTold framing l.max_tokens) (entries c.modules)) (sym left.limits) modules) left.group
         (subst (λ (ps : Primitives). Finds ps (inserted k.now.modules (entries c.modules)) None) (sym left.primitives) (subst (λ m. Finds h.primitives m None) (sym all) can.sound.1)) in
         record {
           last = grouped.last;

@@ -12,6 +12,7 @@ use Rattle.term_core.specs.Tree.{Symbol, Tree, branch, application, list, none, 
 use Rattle.term_core.specs.Terms.{IsTerm}
 use Rattle.term_core.specs.Size.{height}
 use Rattle.term_core.specs.declared.TheConstants.{MAX_HEIGHT}
+use Rattle.strategy_tokens.specs.declared.TheConstants.{MAX_TOKENS}
 use Rattle.term_changes.specs.Contents.{Contents}
 use Rattle.session_history.specs.Dump.{tree_line, dumped, IsNamedTerm}
 use Rattle.script_text.specs.declared.framing.Framing.TheVariants.{Continued}
@@ -71,7 +72,7 @@ found name = get-from_sorted (slice_cmp nat_cmp) two_trees name tt
 named : (name : List ℕ) (t : Tree) → find (slice_cmp nat_cmp) name two_trees ≡ Some t → label_of name ≡ Some name → IsTerm t → IsNamedTerm two name
 named name t h label term = subst (λ (o : Option Tree). IfSome o (λ tree. (label_of name ≡ Some name) × IsTerm tree)) (sym (found name ∙ h)) (label, term)
 
-two_is_given : CanBeGiven Continued [] two
+two_is_given : CanBeGiven Continued MAX_TOKENS [] two
 two_is_given = record {
   named = (
     subst (λ (es : List TreeEntry). AllByRecursion (IsNamedTerm two) (map (λ e. e.0) es)) (sym entries-two) (
@@ -80,7 +81,7 @@ two_is_given = record {
     ),
     subst (λ (es : List (List ℕ × List ℕ)). AllByRecursion (λ name. label_of name ≡ Some name) (map (λ e. e.0) es)) (sym no_modules) tt,
   );
-  sound = ((λ name. subst (λ (o : Option Tree). IfSome o (λ tree. height tree ≤ MAX_HEIGHT)) (sym (found name)) (low (eq_by_cmp (slice_cmp nat_cmp) name (codes "a")) (eq_by_cmp (slice_cmp nat_cmp) name (codes "b"))), readable_empty), (sound_no_contents []).1);
+  sound = ((λ name. subst (λ (o : Option Tree). IfSome o (λ tree. height tree ≤ MAX_HEIGHT)) (sym (found name)) (low (eq_by_cmp (slice_cmp nat_cmp) name (codes "a")) (eq_by_cmp (slice_cmp nat_cmp) name (codes "b"))), readable_empty MAX_TOKENS), (sound_no_contents [] MAX_TOKENS).1);
   texts = λ name. subst (λ (o : Option (List ℕ)). IfSome o (IsCommandText Continued)) (sym (get-empty (slice_cmp nat_cmp) name)) tt;
   short = subst (λ (cs : List (List ℕ)). AllByRecursion (λ command. length command ≤ 65536) cs) (sym commands_of_two) (omega arith, (omega arith, tt));
 }

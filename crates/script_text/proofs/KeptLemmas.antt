@@ -16,7 +16,7 @@ use Rattle.strategy_check.specs.Programs.{Program}
 use Rattle.term_changes.specs.Contents.{Contents, with_tree, without_tree, with_module, without_module}
 use Rattle.strategy_meaning.specs.Applied.{applied}
 use Rattle.session_history.specs.Applying.{Meaning, ReadsAsStrategy, resolved_in, world_in, given_by}
-use Rattle.session_modules.specs.Modules.{ReadsAsModule, Checks}
+use Rattle.session_modules.specs.Modules.{ReadsAsModuleOf, Checks}
 use Rattle.session_history.specs.History.{HistoryGroup, History, stepped, changed, back_to, step_back, forward_to, step_forward, moved, undone, redone}
 use Rattle.session_history.specs.Acts.{Act, set_tree as set_tree_act, copy_tree, drop_tree as drop_tree_act, put as put_act, annotate as annotate_act, set_module as set_module_act, unload as unload_act, apply as apply_act, undo as undo_act, redo as redo_act, begin as begin_act, commit as commit_act, abandon as abandon_act, ActResult, Passing, Holding, Given, Leaves, ChangesTo, ChangesModules, PutsAt, AnnotatesAt, AppliesAt, Located, ComesTo, committed, tree_of, module_text_of, place_of}
 use Rattle.session_modules.specs.declared.refusal.Refusal.{Refusal}
@@ -129,7 +129,7 @@ comes (drop_tree_act name) h o p = passing h o (tree_of h.now name) (λ t. Chang
 comes (put_act name path t) h o p = passing h o (place_of h.now name path) (PutsAt name path t h) (λ place. puts name path t h place o) p
 comes (annotate_act name path ts) h o p = passing h o (place_of h.now name path) (AnnotatesAt name path ts h) (λ place. annotates name path ts h place o) p
 comes (set_module_act name x) h o p =
-    given h o (ReadsAsModule x) (λ m. ChangesModules h.group (with_module h.now name x) h) (λ m. changes_modules h.group (with_module h.now name x) h o) p
+    given h o (ReadsAsModuleOf h.limits.max_tokens x) (λ m. ChangesModules h.group (with_module h.now name x) h) (λ m. changes_modules h.group (with_module h.now name x) h o) p
 comes (unload_act name) h o p =
     passing h o (module_text_of h.now name) (λ x. ChangesModules h.group (without_module h.now name) h) (λ x. changes_modules h.group (without_module h.now name) h o) p
 comes (apply_act meaning name path n x) h o p =

@@ -20,6 +20,7 @@ use Rattle.strategy_tokens.specs.declared.token.Token.{Token}
 use Rattle.strategy_tokens.specs.Tokens.{tokens}
 use Rattle.strategy_parse.specs.Gives.{GivesModule, GivesStrategy}
 use Rattle.strategy_tokens.specs.declared.TheConstants.{MAX_TOKENS}
+use Rattle.strategy_tokens.specs.Items.{module_tokens}
 use Rattle.strategy_check.specs.Tables.{Modules}
 use Rattle.strategy_check.specs.Faults.{Fault, Primitives, faults, first}
 use Rattle.strategy_check.specs.Programs.{Program, program}
@@ -30,7 +31,7 @@ use Rattle.strategy_meaning.specs.Answer.{Answer, done as run_done, failed, stop
 use Rattle.strategy_meaning.specs.Meaning.{run_whole}
 use Rattle.strategy_meaning.specs.Applied.{applied}
 use Rattle.session_history.specs.Applying.{Meaning, ReadsAsStrategy, resolved_in, world_in, given_by}
-use Rattle.session_modules.specs.Modules.{Texts, ReadsWithin, ReadsBy, ReadsAsModule, AreRead, Finds, GivesProgram, Checks, refusal_of}
+use Rattle.session_modules.specs.Modules.{Texts, ReadsWithin, ReadsBy, ReadsAsModule, ReadsAsModuleOf, AreRead, Finds, GivesProgram, Checks, refusal_of}
 use Rattle.session_history.specs.History.{HistoryGroup, History, changed, undone, redone}
 use Rattle.session_history.specs.Acts.{Act, set_tree as set_tree_act, copy_tree, drop_tree as drop_tree_act, put as put_act, annotate as annotate_act, set_module as set_module_act, unload as unload_act, apply as apply_act, undo as undo_act, redo as redo_act, begin as begin_act, commit as commit_act, abandon as abandon_act, ActResult, Passing, Holding, Given, Leaves, ChangesTo, ChangesModules, PutsAt, AnnotatesAt, AppliesAt, Located, Resolving, ComesTo, committed, tree_of, module_text_of, place_of}
 use Rattle.session_history.specs.Preview.{Preview, Foresees, ForeseesAt, Previews}
@@ -93,8 +94,8 @@ same_fault : (f g : Fault) → Some f ≡ Some g → f ≡ g
 same_fault f g e = cc
 
 module _ {X : Type 0} (Gives : List Token → X → Type 0) (one : (x : List ℕ) (a b : X) → Gives (tokens x) a → Gives (tokens x) b → a ≡ b) where
-  ReadsBy-one : (x : List ℕ) (a b : Result X Refusal) → ReadsBy Gives x a → ReadsBy Gives x b → a ≡ b
-  ReadsBy-one x a b p q = outcome-one (Gives (tokens x)) (length (tokens x)) MAX_TOKENS Syntax (one x) a b p q
+  ReadsBy-one : (most : ℕ) (x : List ℕ) (a b : Result X Refusal) → ReadsBy Gives most x a → ReadsBy Gives most x b → a ≡ b
+  ReadsBy-one most x a b p q = outcome-one (Gives (tokens x)) (length (tokens x)) most Syntax (one x) a b p q
 
 AppliesAt-one : (meaning : Meaning) (name path : List ℕ) (n : ℕ) (h : History) (place : Located) (program : Program) (strategy : Resolved) (a b : ActResult) → AppliesAt meaning name path n h place program strategy a
     → AppliesAt meaning name path n h place program strategy b → a ≡ b
@@ -109,8 +110,8 @@ Foresees-one path n before (failed left) a b p q = p ∙ sym q
 Foresees-one path n before (run_stopped why) a b p q = p ∙ sym q
 
 module _ (one : OneModule) where
-  ReadsAsModule-one : (x : List ℕ) (a b : Result Module Refusal) → ReadsAsModule x a → ReadsAsModule x b → a ≡ b
-  ReadsAsModule-one = ReadsBy-one GivesModule one
+  ReadsAsModule-one : (most : ℕ) (x : List ℕ) (a b : Result Module Refusal) → ReadsAsModuleOf most x a → ReadsAsModuleOf most x b → a ≡ b
+  ReadsAsModule-one most x = ReadsBy-one GivesModule one (module_tokens most (tokens x)) x
 
   read_as-one : (text : Option (List ℕ)) (m n : Module) → IsSomeAnd text (λ x. ReadsAsModule x (Ok m)) → IsSomeAnd text (λ x. ReadsAsModule x (Ok n)) → m ≡ n
   read_as-one None m n p q = absurd p
@@ -158,7 +159,7 @@ module _ (one : OneModule) where
       let Resolves : Located → Strategy → Program → Result Y Refusal → Type 0 = λ place s program. Passing (resolved_in program h.primitives s) (next place program) in
       let Checked : Located → Strategy → Result Y Refusal → Type 0 = λ place s. Given (Checks h.primitives h.now.modules) (Resolves place s) in
       Passing-one (place_of h.now name path) (λ place. Given (ReadsAsStrategy x) (Checked place))
-      (λ place. Given-one (ReadsAsStrategy x) (Checked place) (ReadsBy-one GivesStrategy strategies x)
+      (λ place. Given-one (ReadsAsStrategy x) (Checked place) (ReadsBy-one GivesStrategy strategies MAX_TOKENS x)
       (λ s. Given-one (Checks h.primitives h.now.modules) (Resolves place s) (Checks-one h.primitives h.now.modules)
       (λ program. Passing-one (resolved_in program h.primitives s) (next place program) (one place program))))
 
@@ -174,7 +175,7 @@ module _ (one : OneModule) where
   ComesTo-one strategies (put_act name path t) h = Passing-one (place_of h.now name path) (PutsAt name path t h) (PutsAt-one name path t h)
   ComesTo-one strategies (annotate_act name path ts) h = Passing-one (place_of h.now name path) (AnnotatesAt name path ts h) (AnnotatesAt-one name path ts h)
   ComesTo-one strategies (set_module_act name x) h =
-      Given-one (ReadsAsModule x) (λ m. ChangesModules h.group (with_module h.now name x) h) (ReadsAsModule-one x) (λ m. ChangesModules-one h.group (with_module h.now name x) h)
+      Given-one (ReadsAsModuleOf h.limits.max_tokens x) (λ m. ChangesModules h.group (with_module h.now name x) h) (ReadsAsModule-one h.limits.max_tokens x) (λ m. ChangesModules-one h.group (with_module h.now name x) h)
   ComesTo-one strategies (unload_act name) h =
       Passing-one (module_text_of h.now name) (λ x. ChangesModules h.group (without_module h.now name) h) (λ x. ChangesModules-one h.group (without_module h.now name) h)
   ComesTo-one strategies (apply_act meaning name path n x) h =

@@ -21,7 +21,10 @@ use Rattle.strategy_meaning.specs.Meaning.{World, run_whole}
 use Rattle.strategy_meaning.specs.Applied.{Outcome, gives, fails, stops, applied}
 use Rattle.strategy_meaning.specs.Laws.{MoreRoomGivesTheSame, MoreRoomAppliesTheSame}
 use Rattle.session_history.specs.Applying.{Meaning, ReadsAsStrategy, resolved_in, world_in, given_by}
-use Rattle.session_modules.specs.Modules.{ReadsAsModule, Checks}
+use Rattle.strategy_tokens.specs.Tokens as lexed
+use Rattle.session_modules.specs.Modules.{ReadsAsModuleOf, Checks}
+use Rattle.session_modules.proofs.ReadingLemmas.{more_tokens}
+use Rattle.session_history.proofs.StepLemmas.{given_Ok}
 use Rattle.session_history.specs.History.{HistoryGroup, History, stepped, changed, back_to, step_back, forward_to, step_forward, moved, undone, redone}
 use Rattle.session_history.specs.Acts.{Act, set_tree as set_tree_act, copy_tree, drop_tree as drop_tree_act, put as put_act, annotate as annotate_act, set_module as set_module_act, unload as unload_act, apply as apply_act, undo as undo_act, redo as redo_act, begin as begin_act, commit as commit_act, abandon as abandon_act, ActResult, Passing, Holding, Given, Leaves, ChangesTo, ChangesModules, PutsAt, AnnotatesAt, AppliesAt, Located, Resolving, ComesTo, committed, tree_of, module_text_of, place_of}
 use Rattle.session_history.specs.Preview.{Preview, Foresees, ForeseesAt, Previews}
@@ -77,9 +80,9 @@ more_fit most more level (t ∷ ts) e =
 more_within : (n most more : ℕ) → nat_le 1 n && nat_le n most ≡ true → nat_le 1 n && nat_le n (most + more) ≡ true
 more_within n most more e = grind (arith, nat_tests)
 
-module _ (more_room_gives_the_same : MoreRoomGivesTheSame) (more_room_applies_the_same : MoreRoomAppliesTheSame) (terms steps : ℕ) where
+module _ (more_room_gives_the_same : MoreRoomGivesTheSame) (more_room_applies_the_same : MoreRoomAppliesTheSame) (terms steps tokens : ℕ) where
   abbrev wide : History → History
-  wide h = raised terms steps h
+  wide h = raised terms steps tokens h
 
   -- ---- changes
 
@@ -198,7 +201,9 @@ module _ (more_room_gives_the_same : MoreRoomGivesTheSame) (more_room_applies_th
   comes (annotate_act name path ts) h g p = passing g (wide g) (place_of h.now name path) (AnnotatesAt name path ts h) (AnnotatesAt name path ts (wide h)) (annotates name path ts h g) p
   comes (set_module_act name x) h g p =
       let c : Contents = with_module h.now name x in
-      given g (wide g) (ReadsAsModule x) (λ m. ChangesModules h.group c h) (λ m. ChangesModules h.group c (wide h)) (λ m. changes_modules h.group c h g) p
+      let read = given_Ok (ReadsAsModuleOf h.limits.max_tokens x) (λ m. ChangesModules h.group c h) g p in
+      let more = more_tokens h.limits.max_tokens (h.limits.max_tokens + tokens) (lexed.tokens x) (omega arith) in
+      (Ok read.0, (omega (arith, read.1.0, more), read.1.1), changes_modules h.group c h g read.2)
   comes (unload_act name) h g p =
       let c : Contents = without_module h.now name in
       passing g (wide g) (module_text_of h.now name) (λ x. ChangesModules h.group c h) (λ x. ChangesModules h.group c (wide h)) (λ x. changes_modules h.group c h g) p
@@ -225,17 +230,17 @@ module _ (more_room_gives_the_same : MoreRoomGivesTheSame) (more_room_applies_th
   -- ---- replies
 
   abbrev wider : Accepted → Accepted
-  wider a = raised_accepted terms steps a
+  wider a = raised_accepted terms steps tokens a
 
   told : (Comes Later : ActResult → Type 0) (a : Accepted) → ((g : History) → Comes (Ok g) → Later (Ok (wide g))) → Told Comes (Ok a) → Told Later (Ok (wider a))
   told Comes Later a f p = go p.0 p.1 p.2
     where
       go : (outcome : ActResult) → Comes outcome → Ok a ≡ done outcome → Told Later (Ok (wider a))
-      go (Ok g) comes e = (Ok (wide g), f g comes, ap (raised_reply terms steps) e)
+      go (Ok g) comes e = (Ok (wide g), f g comes, ap (raised_reply terms steps tokens) e)
       go (Err refusal) comes e = absurd (cc)
 
   shows : {X : Type 0} (text_of : X → List ℕ) (h : History) (found : Result X Refusal) (a : Accepted) → Ok a ≡ shown text_of h found → Ok (wider a) ≡ shown text_of (wide h) found
-  shows text_of h (Ok x) a e = ap (raised_reply terms steps) e
+  shows text_of h (Ok x) a e = ap (raised_reply terms steps tokens) e
   shows text_of h (Err refusal) a e = absurd (cc)
 
   module _ (meaning : Meaning) where
@@ -278,7 +283,7 @@ module _ (more_room_gives_the_same : MoreRoomGivesTheSame) (more_room_applies_th
     replies_on (pretty name path) h a = shows _ h (place_of h.now name path) a
     replies_on (diff name) h a = shows _ h _ a
     replies_on (module_text name) h a = shows _ h (module_text_of h.now name) a
-    replies_on form h a = ap (raised_reply terms steps)
+    replies_on form h a = ap (raised_reply terms steps tokens)
 
   -- ---- forms
 
@@ -367,7 +372,7 @@ module _ (more_room_gives_the_same : MoreRoomGivesTheSame) (more_room_applies_th
 
     runs_on : (stop : Bool) (commands : List Handed) (flags : List Bool) (h g : History) (rs : List Reply) → AllByRecursion (λ reply. is_ok reply ≡ true) rs
         → Replied stop (ReplyInRun meaning budget) commands flags h rs g
-        → Replied stop (ReplyInRun meaning budget) commands flags (wide h) (map (raised_reply terms steps) rs) (wide g) × (out (map (raised_reply terms steps) rs) ≡ out rs)
+        → Replied stop (ReplyInRun meaning budget) commands flags (wide h) (map (raised_reply terms steps tokens) rs) (wide g) × (out (map (raised_reply terms steps tokens) rs) ≡ out rs)
     runs_on stop [] [] h g [] ok p = (ap wide p, refl)
     runs_on stop (c ∷ cs) (f ∷ fs) h g (Ok a ∷ rs) ok p =
         let rest = runs_on stop cs fs a.history g rs ok.1 (going stop _ _ p.1) in
@@ -376,5 +381,5 @@ module _ (more_room_gives_the_same : MoreRoomGivesTheSame) (more_room_applies_th
     runs_on stop cs fs h g rs ok p = absurd p
 
 pub greater_limits_answer_the_same : MoreRoomGivesTheSame → MoreRoomAppliesTheSame → GreaterLimitsAnswerTheSame
-greater_limits_answer_the_same run applied meaning stop budget commands flags h g replies terms steps ok p =
-    runs_on run applied terms steps meaning budget stop commands flags h g replies ok p
+greater_limits_answer_the_same run applied meaning stop budget commands flags h g replies terms steps tokens ok p =
+    runs_on run applied terms steps tokens meaning budget stop commands flags h g replies ok p

@@ -35,29 +35,35 @@ LimitsAreKept =
     (replies : List Reply) → Replied stop (ReplyInRun meaning budget) commands flags h replies g
     → (g.limits ≡ h.limits) × (g.primitives ≡ h.primitives)
 
--- the history with limits that are greater by this many terms and this many steps
-abbrev pub raised : ℕ → ℕ → History → History
-raised terms steps h =
-    record h { limits = record { max_terms = h.limits.max_terms + terms; max_steps = h.limits.max_steps + steps } }
+-- the history with limits that are greater by this many terms, steps and tokens
+abbrev pub raised : ℕ → ℕ → ℕ → History → History
+raised terms steps tokens h =
+    record h {
+      limits = record {
+        max_terms = h.limits.max_terms + terms;
+        max_steps = h.limits.max_steps + steps;
+        max_tokens = h.limits.max_tokens + tokens;
+      };
+    }
 
 -- the same answer, and such a history after it
-abbrev pub raised_accepted : ℕ → ℕ → Accepted → Accepted
-raised_accepted terms steps a = record a { history = raised terms steps a.history }
+abbrev pub raised_accepted : ℕ → ℕ → ℕ → Accepted → Accepted
+raised_accepted terms steps tokens a = record a { history = raised terms steps tokens a.history }
 
-abbrev pub raised_reply : ℕ → ℕ → Reply → Reply
-raised_reply terms steps (Ok a) = Ok (raised_accepted terms steps a)
-raised_reply terms steps (Err refusal) = Err refusal
+abbrev pub raised_reply : ℕ → ℕ → ℕ → Reply → Reply
+raised_reply terms steps tokens (Ok a) = Ok (raised_accepted terms steps tokens a)
+raised_reply terms steps tokens (Err refusal) = Err refusal
 
 -- A run in which every command is accepted has the same answers with greater limits, and leads to the
 -- same trees, modules and steps.
 abbrev pub GreaterLimitsAnswerTheSame : Type 0
 GreaterLimitsAnswerTheSame =
     (meaning : Meaning) (stop : Bool) (budget : ℕ) (commands : List Handed) (flags : List Bool) (h g : History)
-    (replies : List Reply) (terms steps : ℕ) → AllByRecursion (λ reply. is_ok reply ≡ true) replies
+    (replies : List Reply) (terms steps tokens : ℕ) → AllByRecursion (λ reply. is_ok reply ≡ true) replies
     → Replied stop (ReplyInRun meaning budget) commands flags h replies g
-    → Replied stop (ReplyInRun meaning budget) commands flags (raised terms steps h)
-    (map (raised_reply terms steps) replies) (raised terms steps g)
-    × (out (map (raised_reply terms steps) replies) ≡ out replies)
+    → Replied stop (ReplyInRun meaning budget) commands flags (raised terms steps tokens h)
+    (map (raised_reply terms steps tokens) replies) (raised terms steps tokens g)
+    × (out (map (raised_reply terms steps tokens) replies) ≡ out replies)
 
 -- ---- dumps
 
@@ -75,12 +81,12 @@ pub record IsCommandText (framing : Framing) (text : List ℕ) : Type 0 where
       (slice_split is_line_feed text)
   pub goes_on : GoOn framing (drop 1 (slice_split is_line_feed text))
 
--- Contents that a script can restore in a session with these primitives: their names are labels and
+-- Contents that a script can restore in a session with these primitives, whose modules may have so many tokens: their names are labels and
 -- their trees terms, they are sound, a command can give each module text, and no command of their
 -- dump is longer than 65,536 bytes.
-pub record CanBeGiven (framing : Framing) (primitives : Primitives) (c : Contents) : Type 0 where
+pub record CanBeGiven (framing : Framing) (most : ℕ) (primitives : Primitives) (c : Contents) : Type 0 where
   pub named : AreNamedTerms c
-  pub sound : AreSound primitives c
+  pub sound : AreSound primitives most c
   pub texts : (name : List ℕ) → IfSome (finmap.get c.modules name) (IsCommandText framing)
   pub short : AllByRecursion (λ command. length command ≤ MAX_COMMAND) (commands framing (dumped c))
 
@@ -106,7 +112,7 @@ pub record GivesAgain (framing : Framing) (c : Contents) (g : History) (replies 
 abbrev pub DumpReadsBack : Type 0
 DumpReadsBack =
     (meaning : Meaning) (framing : Framing) (stop : Bool) (budget : ℕ) (c : Contents) (h g : History) (flags : List Bool)
-    (replies : List Reply) → CanBeGiven framing h.primitives c → IsBare h → AreClear flags
+    (replies : List Reply) → CanBeGiven framing h.limits.max_tokens h.primitives c → IsBare h → AreClear flags
     → Replied stop (ReplyInRun meaning budget) (handed framing (dumped c)) flags h replies g → GivesAgain framing c g replies
 
 -- Such a run exists on each such session: the dump is answered, and memory can grow in all its
@@ -114,6 +120,6 @@ DumpReadsBack =
 abbrev pub DumpIsAnswered : Type 0
 DumpIsAnswered =
     (meaning : Meaning) (framing : Framing) (stop : Bool) (budget : ℕ) (c : Contents) (h : History)
-    → CanBeGiven framing h.primitives c → IsBare h
+    → CanBeGiven framing h.limits.max_tokens h.primitives c → IsBare h
     → (flags : List Bool) × (replies : List Reply) × (g : History)
     × AreClear flags × Replied stop (ReplyInRun meaning budget) (handed framing (dumped c)) flags h replies g

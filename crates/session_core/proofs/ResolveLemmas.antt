@@ -61,7 +61,7 @@ told_resolved (Told kind name n m) found whole is = inr (ap (λ o. unless_faulty
 
 -- ---- a place in a tree that is low enough
 
-module _ (t : Logged) (name path : List ℕ) (i : ℕ) (there : IsPlaceOf t.store name path i) (formed : AreFormed (contents t.store)) where
+module _ (t : Logged) (name path : List ℕ) (i : ℕ) (there : IsPlaceOf t.store name path i) (formed : AreFormed t.limits.max_tokens (contents t.store)) where
   within : height there.tree ≤ MAX_HEIGHT
   within = subst (λ (o : Option Tree). IfSome o (λ t. height t ≤ MAX_HEIGHT)) (place_held t name path i there) (formed.0 name)
 
@@ -115,9 +115,9 @@ module _ (ps : List Signature) (t : Logged) (name path text : List ℕ) where
       checked : (refusal : Refusal) → Checked here s (Err refusal) → Unresolved refusal
       checked refusal p = placed refusal (Ok s, reads, p)
 
-      pub unresolved_unchecked : (refusal : Refusal) → AreReadable (contents t.store).modules → AreRefused ps (contents t.store).modules refusal → (refusal ≡ Memory) ⊎ Unresolved refusal
+      pub unresolved_unchecked : (refusal : Refusal) → AreReadable t.limits.max_tokens (contents t.store).modules → AreRefused ps (contents t.store).modules refusal → (refusal ≡ Memory) ⊎ Unresolved refusal
       unresolved_unchecked refusal readable (inl (inl memory)) = inl memory
-      unresolved_unchecked refusal readable (inl (inr none)) = absurd (none_unread (contents t.store).modules refusal readable none)
+      unresolved_unchecked refusal readable (inl (inr none)) = absurd (none_unread t.limits.max_tokens (contents t.store).modules refusal readable none)
       unresolved_unchecked refusal readable (inr fault) = inr (checked refusal (Err refusal, fault, refl))
 
       pub unresolved_faulty : (program : Program) → GivesProgram ps (contents t.store).modules program → (refusal : Refusal)

@@ -30,7 +30,7 @@ pub(crate) fn apply_strategy<M: Meaning>(
     budget: u32,
     text: &[u8],
 ) -> Result<(), Refusal>
-    requires formed { AreFormed (contents timeline.old.store) }
+    requires formed { AreFormed timeline.old.limits.max_tokens (contents timeline.old.store) }
     requires kept { IsKept primitives.now (contents timeline.old.store).modules cache.old }
     ensures performs { PerformsBy primitives.now (apply M.meaning name.now path.now budget text.now)
         timeline.old timeline.new result }

@@ -36,7 +36,7 @@ pub(crate) fn plan_at<M: Meaning>(
     budget: u32,
     text: &[u8],
 ) -> Result<PlannedAt, Refusal>
-    requires formed { AreFormed (contents timeline.now.store) }
+    requires formed { AreFormed timeline.now.limits.max_tokens (contents timeline.now.store) }
     requires kept { IsKept primitives.now (contents timeline.now.store).modules cache.old }
     ensures ok { IfOk result (λ found. PlansTo M.meaning primitives.now timeline.now name.now path.now text.now budget
         found.slot (patch_entries found.slot path.now found.planned.patch) found.planned.taken) }

@@ -99,7 +99,7 @@ pub(crate) fn preview_strategy<M: Meaning>(
     budget: u32,
     text: &[u8],
 ) -> Result<Preview, Refusal>
-    requires formed { AreFormed (contents timeline.now.store) }
+    requires formed { AreFormed timeline.now.limits.max_tokens (contents timeline.now.store) }
     requires kept { IsKept primitives.now (contents timeline.now.store).modules cache.old }
     ensures answers { AnswersPreview M.meaning name.now path.now budget text.now (unfolded primitives.now timeline.now) result }
     ensures kept { IsKept primitives.now (contents timeline.now.store).modules cache.new }

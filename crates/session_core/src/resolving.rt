@@ -37,7 +37,7 @@ pub(crate) fn resolve_at<'a, M: Meaning>(
     path: &Path,
     text: &[u8],
 ) -> Result<ResolvedAt<'a>, Refusal>
-    requires formed { AreFormed (contents timeline.now.store) }
+    requires formed { AreFormed timeline.now.limits.max_tokens (contents timeline.now.store) }
     requires kept { IsKept primitives.now (contents timeline.now.store).modules cache.old }
     ensures ok { IfOk result (λ found. ResolvesTo primitives.now timeline.now name.now path.now text.now
         (program_in cache.new) found.place.slot found.strategy) }

@@ -10,13 +10,14 @@ use Rattle.term_changes.specs.Slots.{Store, contents, content, slot_of}
 use Rattle.term_changes.specs.Entries.{slot_text, put}
 use Rattle.term_changes.proofs.ContentsLemmas.{module_of_name, module_put, module_taken}
 use Rattle.prim_core.specs.Signature.{Signature}
-use Rattle.session_modules.specs.Modules.{Texts, ReadsAsModule, AreReadable, GivesProgram, Checks, IsUnread, AreRefused, changed_text}
+use Rattle.session_modules.specs.Modules.{Texts, ReadsAsModule, ReadsAsModuleOf, AreReadable, GivesProgram, Checks, IsUnread, AreRefused, changed_text}
 use Rattle.session_modules.specs.Kept.{AreCurrent, IsCurrent, IsKept}
 use Rattle.session_modules.specs.declared.cache.ModuleCache.{ModuleCache}
 use Rattle.session_modules.specs.declared.checked.CheckedTexts.{CheckedTexts}
 use Rattle.session_modules.specs.declared.refusal.Refusal.{Refusal}
 use Rattle.session_modules.specs.declared.refusal.Refusal.TheVariants.{Memory, NoModule, NoGroup}
 use Rattle.session_modules.proofs.CacheLemmas.{kept_current}
+use Rattle.session_modules.proofs.ReadingLemmas.{any_module}
 use Rattle.session_history.specs.Unfolded.{Logged, unfolded, HasText}
 use Rattle.session_history.specs.Moving.{KeepsHistory, Puts, Commits, PerformsBy}
 use Rattle.session_history.specs.History.{HistoryGroup, History, changed}
@@ -40,10 +41,10 @@ current_gives ps texts (Some c) current = (c.checked.program, given_by ps texts 
 
 -- ---- one module more, or one less
 
-pub none_unread : (texts : Texts) (refusal : Refusal) → AreReadable texts → IsUnread texts refusal → ⊥
-none_unread texts refusal readable (q, x, e, unread) =
-    let old : (m : Module) × ReadsAsModule x (Ok m) = subst (λ (o : Option (List ℕ)). IfSome o (λ t. (m : Module) × ReadsAsModule t (Ok m))) e (readable q) in
-    reads_one x old.0 refusal old.1 unread
+pub none_unread : (most : ℕ) (texts : Texts) (refusal : Refusal) → AreReadable most texts → IsUnread texts refusal → ⊥
+none_unread most texts refusal readable (q, x, e, unread) =
+    let old : (m : Module) × ReadsAsModuleOf most x (Ok m) = subst (λ (o : Option (List ℕ)). IfSome o (λ t. (m : Module) × ReadsAsModuleOf most t (Ok m))) e (readable q) in
+    reads_one x old.0 refusal (any_module most x old.0 old.1) unread
 
 -- ---- a text in the slot of a name
 
@@ -82,7 +83,7 @@ module _ (ps : List Signature) (t : Logged) (name text : List ℕ) where
   with_text = with_module (contents t.store) name text
 
   -- a text that is no module, at a `?`
-  pub set_unread : {X : Type 0} (r : Result X Refusal) (refusal : Refusal) → IsErrAnd r (λ e. e ≡ refusal) → (refusal ≡ Memory) ⊎ ReadsAsModule text (Err refusal)
+  pub set_unread : {X : Type 0} (r : Result X Refusal) (refusal : Refusal) → IsErrAnd r (λ e. e ≡ refusal) → (refusal ≡ Memory) ⊎ ReadsAsModuleOf t.limits.max_tokens text (Err refusal)
       → PerformsBy ps (set_module name text) t t r
   set_unread r refusal is (inl memory) = record { is = refuses_by (set_module name text) (unfolded ps t) (unfolded ps t) r refusal is (inl memory) refl }
   set_unread r refusal is (inr unread) = record { is = refuses_by (set_module name text) (unfolded ps t) (unfolded ps t) r refusal is (inr (Err refusal, unread, refl)) refl }
@@ -101,7 +102,7 @@ module _ (ps : List Signature) (t : Logged) (name text : List ℕ) where
     told_texts : changed_text (contents m.store).modules name (Some text) ≡ with_text.modules
     told_texts = ap (λ (h : History). changed_text h.now.modules name (Some text)) (kept.same ps)
 
-    module _ (read : Module) (reads : ReadsAsModule text (Ok read)) (closed : t.group ≡ None) where
+    module _ (read : Module) (reads : ReadsAsModuleOf t.limits.max_tokens text (Ok read)) (closed : t.group ≡ None) where
       pub set_outside : (k : ModuleCache) → IsCurrent ps (changed_text (contents m.store).modules name (Some text)) k → Puts (slot_text i (Some text)) m n
           → PerformsBy {X = Unit {0}} ps (set_module name text) t n (Ok tt)
       set_outside k current change =
@@ -127,7 +128,7 @@ module _ (ps : List Signature) (t : Logged) (name text : List ℕ) where
     set_kept (Ok _) k change current same stays = kept_current ps (contents n.store).modules k (subst (λ (texts : Texts). IsCurrent ps texts k) (told_texts ∙ ap (λ (c : Contents). c.modules) (sym (now_with change))) current)
     set_kept (Err refusal) k change current same stays = kept_same ps m n k same stays
 
-    pub set_inside : (read : Module) → IsSome t.group → ReadsAsModule text (Ok read) → Puts (slot_text i (Some text)) m n
+    pub set_inside : (read : Module) → IsSome t.group → ReadsAsModuleOf t.limits.max_tokens text (Ok read) → Puts (slot_text i (Some text)) m n
         → PerformsBy {X = Unit {0}} ps (set_module name text) t n (Ok tt)
     set_inside read inside reads change = accepted (set_module name text) t n ps tt (Ok read, reads, becomes_inside ps t n with_text inside (told change))
 
@@ -191,13 +192,13 @@ module _ (ps : List Signature) (t : Logged) where
       by None left = absurd left
       by (Some group) left = let given = current_gives ps (contents t.store).modules k.kept current in (Ok given.0, given.1, ap Ok left)
 
-  pub commit_refused : (refusal : Refusal) → IsSome t.group → AreReadable (contents t.store).modules → AreRefused ps (contents t.store).modules refusal
+  pub commit_refused : (refusal : Refusal) → IsSome t.group → AreReadable t.limits.max_tokens (contents t.store).modules → AreRefused ps (contents t.store).modules refusal
       → PerformsBy {X = Unit {0}} ps commit t t (Err refusal)
   commit_refused refusal inside readable refused = refused_by commit t t ps refusal (by refused) (keeps_itself t)
     where
       by : AreRefused ps (contents t.store).modules refusal → (refusal ≡ Memory) ⊎ ComesTo commit (unfolded ps t) (Err refusal)
       by (inl (inl memory)) = inl memory
-      by (inl (inr unread)) = absurd (none_unread (contents t.store).modules refusal readable unread)
+      by (inl (inr unread)) = absurd (none_unread t.limits.max_tokens (contents t.store).modules refusal readable unread)
       by (inr checks) = inr (rw (some_there t.group inside).1 (Err refusal, checks, refl))
 
 -- what makes the answers to acts on the modules out of what the calls in them say

@@ -20,7 +20,7 @@ use Rattle.strategy_check.specs.Programs.{Program}
 use Rattle.strategy_syntax.specs.Syntax.{Strategy}
 use Rattle.strategy_meaning.specs.Applied.{Outcome as Ending, gives, fails, stops, IfGiven, applied}
 use Rattle.strategy_meaning.specs.Laws.{AppliedKeepsHeights}
-use Rattle.session_modules.specs.Modules.{Texts, ReadsAsModule, AreReadable, AreRead, Finds, GivesProgram, Checks}
+use Rattle.session_modules.specs.Modules.{Texts, ReadsAsModuleOf, AreReadable, AreRead, Finds, GivesProgram, Checks}
 use Rattle.session_history.specs.History.{HistoryGroup, History, stepped, changed, back_to, forward_to, step_back, step_forward, undone, redone, AreLow, AreFormed, AreSound, IsSoundNow, HasSoundContents}
 use Rattle.session_history.specs.Acts.{Act, set_tree, copy_tree, drop_tree, put, annotate, set_module, unload, apply, undo, redo, begin, commit, abandon, Passing, Leaves, ChangesTo, ChangesModules, Given, PutsAt, AnnotatesAt, AppliesAt, Located, ActResult, ComesTo, tree_of, module_text_of, place_of, committed}
 use Rattle.session_history.specs.Applying.{ReadsAsStrategy, resolved_in, world_in, given_by}
@@ -52,15 +52,15 @@ module _ {X : Type 0} (P : X → Type 0) where
 abbrev Low : Tree → Type 0
 Low t = height t ≤ MAX_HEIGHT
 
-abbrev pub IsReadable : List ℕ → Type 0
-IsReadable text = (m : Module) × ReadsAsModule text (Ok m)
+abbrev pub IsReadable : ℕ → List ℕ → Type 0
+IsReadable most text = (m : Module) × ReadsAsModuleOf most text (Ok m)
 
-pub readable_empty : AreReadable finmap.empty
-readable_empty = have_none IsReadable
+pub readable_empty : (most : ℕ) → AreReadable most finmap.empty
+readable_empty most = have_none (IsReadable most)
 
-pub sound_no_contents : (ps : Primitives) → AreSound ps no_contents
-sound_no_contents ps = (
-  (have_none Low, readable_empty),
+pub sound_no_contents : (ps : Primitives) (most : ℕ) → AreSound ps most no_contents
+sound_no_contents ps most = (
+  (have_none Low, readable_empty most),
   record {
     modules = [];
     are = subst (λ (names : List (List ℕ)). AreRead finmap.empty names []) (sym (no_keys finmap.empty (λ q. get-empty (slice_cmp nat_cmp) q))) tt;
@@ -135,37 +135,37 @@ height_of_annotated room t us p h f =
 -- ---- histories
 
 -- the current contents are well formed, and outside a group they are sound
-pub formed_now : (ps : Primitives) (c : Contents) (o : Option HistoryGroup) → IsSoundNow ps c o → AreFormed c
-formed_now ps c o s = grind arith
+pub formed_now : (ps : Primitives) (most : ℕ) (c : Contents) (o : Option HistoryGroup) → IsSoundNow ps most c o → AreFormed most c
+formed_now ps most c o s = grind arith
 
-pub sound_outside : (h : History) → HasSoundContents h → h.group ≡ None → AreSound h.primitives h.now
-sound_outside h s closed = subst (IsSoundNow h.primitives h.now) closed s.1
+pub sound_outside : (h : History) → HasSoundContents h → h.group ≡ None → AreSound h.primitives h.limits.max_tokens h.now
+sound_outside h s closed = subst (IsSoundNow h.primitives h.limits.max_tokens h.now) closed s.1
 
-pub sound_begun : (h : History) (group : HistoryGroup) → HasSoundContents h → h.group ≡ Some group → AreSound h.primitives group.begun
-sound_begun h group s e = (subst (IsSoundNow h.primitives h.now) e s.1).1
+pub sound_begun : (h : History) (group : HistoryGroup) → HasSoundContents h → h.group ≡ Some group → AreSound h.primitives h.limits.max_tokens group.begun
+sound_begun h group s e = (subst (IsSoundNow h.primitives h.limits.max_tokens h.now) e s.1).1
 
-pub sound_changed : (c : Contents) (h : History) → HasSoundContents h → AreFormed c → (h.group ≡ None → Finds h.primitives c.modules None) → HasSoundContents (changed c h)
+pub sound_changed : (c : Contents) (h : History) → HasSoundContents h → AreFormed h.limits.max_tokens c → (h.group ≡ None → Finds h.primitives c.modules None) → HasSoundContents (changed c h)
 sound_changed c h s k f = by h.group refl s.1
   where
-    by : (o : Option HistoryGroup) → h.group ≡ o → IsSoundNow h.primitives h.now o
+    by : (o : Option HistoryGroup) → h.group ≡ o → IsSoundNow h.primitives h.limits.max_tokens h.now o
         → HasSoundContents (option_map_or (λ g. record h { now = c; group = Some (record g { changed = true }) }) o (record (stepped h.now h) { now = c }))
-    by None e n = ((n, s.0), subst (IsSoundNow h.primitives c) (sym e) (k, f e), tt)
+    by None e n = ((n, s.0), subst (IsSoundNow h.primitives h.limits.max_tokens c) (sym e) (k, f e), tt)
     by (Some group) e n = (s.0, (k, n.1, tt), s.2)
 
 -- a sound history without an open group
 abbrev Whole : History → Type 0
-Whole h = (h.group ≡ None) × (AllByRecursion (AreSound h.primitives) h.past × AreSound h.primitives h.now × AllByRecursion (AreSound h.primitives) h.later)
+Whole h = (h.group ≡ None) × (AllByRecursion (AreSound h.primitives h.limits.max_tokens) h.past × AreSound h.primitives h.limits.max_tokens h.now × AllByRecursion (AreSound h.primitives h.limits.max_tokens) h.later)
 
 whole : (h : History) → HasSoundContents h → h.group ≡ None → Whole h
 whole h s closed = (closed, (s.0, sound_outside h s closed, s.2))
 
 sound_whole : (h : History) → Whole h → HasSoundContents h
-sound_whole h w = (w.1.0, subst (IsSoundNow h.primitives h.now) (sym w.0) w.1.1, w.1.2)
+sound_whole h w = (w.1.0, subst (IsSoundNow h.primitives h.limits.max_tokens h.now) (sym w.0) w.1.1, w.1.2)
 
 whole_back : (h g : History) → Whole h → step_back h ≡ Some g → Whole g
 whole_back h g w e = by h.past w.1.0 e
   where
-    by : (past : List Contents) → AllByRecursion (AreSound h.primitives) past → back_to h past ≡ Some g → Whole g
+    by : (past : List Contents) → AllByRecursion (AreSound h.primitives h.limits.max_tokens) past → back_to h past ≡ Some g → Whole g
     by [] a e = absurd (cc)
     by (c ∷ cs) a e =
         subst Whole (same_Some _ _ e) (w.0, (a.1, a.0, (w.1.1, w.1.2)))
@@ -173,7 +173,7 @@ whole_back h g w e = by h.past w.1.0 e
 whole_forward : (h g : History) → Whole h → step_forward h ≡ Some g → Whole g
 whole_forward h g w e = by h.later w.1.2 e
   where
-    by : (later : List Contents) → AllByRecursion (AreSound h.primitives) later → forward_to h later ≡ Some g → Whole g
+    by : (later : List Contents) → AllByRecursion (AreSound h.primitives h.limits.max_tokens) later → forward_to h later ≡ Some g → Whole g
     by [] a e = absurd (cc)
     by (c ∷ cs) a e = subst Whole (same_Some _ _ e) (w.0, ((w.1.1, w.1.0), a.0, a.1))
 
@@ -181,7 +181,7 @@ whole_forward h g w e = by h.later w.1.2 e
 
 pub sound_committed : (group : HistoryGroup) (h : History) → HasSoundContents h → h.group ≡ Some group → Finds h.primitives h.now.modules None → HasSoundContents (committed group h)
 sound_committed group h s inside found =
-    let now : AreSound h.primitives h.now = (formed_now h.primitives h.now h.group s.1, found) in
+    let now : AreSound h.primitives h.limits.max_tokens h.now = (formed_now h.primitives h.limits.max_tokens h.now h.group s.1, found) in
     elim group.changed as (λ b. HasSoundContents (cond b (record (stepped group.begun h) { group = None }) (record h { group = None }))) [
       | true ↦ ((sound_begun h group s inside, s.0), now, tt)
       | false ↦ (s.0, now, s.2)
@@ -278,7 +278,7 @@ trees_change act h g only done = absurd only
 trees_sound : (act : Act) (h g : History) → ChangesTrees act → StandsOn act → HasSoundContents h → ComesTo act h (Ok g) → HasSoundContents g
 trees_sound act h g only stands s done =
     let change = trees_change act h g only done in
-    let formed = formed_now h.primitives h.now h.group s.1 in
+    let formed = formed_now h.primitives h.limits.max_tokens h.now h.group s.1 in
     subst HasSoundContents (sym change.is) (sound_changed (record h.now { trees = change.trees }) h s (change.low stands formed.0, formed.1) (λ closed. (sound_outside h s closed).1))
 
 trees_leave : (act : Act) (h g : History) → ChangesTrees act → ComesTo act h (Ok g) → g.now.modules ≡ h.now.modules
@@ -294,7 +294,7 @@ modules_change None c h g done =
     (same_Ok (changed c h) g checked.2, λ _. program_finds h.primitives c.modules checked.0 checked.1)
 modules_change (Some group) c h g done = (same_Ok (changed c h) g done, λ none. absurd (cc))
 
-modules_sound : (c : Contents) (h g : History) → HasSoundContents h → AreFormed c → ChangesModules h.group c h (Ok g) → HasSoundContents g
+modules_sound : (c : Contents) (h g : History) → HasSoundContents h → AreFormed h.limits.max_tokens c → ChangesModules h.group c h (Ok g) → HasSoundContents g
 modules_sound c h g s formed done =
     let change = modules_change h.group c h g done in
     subst HasSoundContents (sym change.0) (sound_changed c h s formed change.1)
@@ -308,13 +308,13 @@ moved h g o refusal done =
 
 pub step_sound : (act : Act) (h g : History) → StandsOn act → HasSoundContents h → ComesTo act h (Ok g) → HasSoundContents g
 step_sound (set_module name text) h g stands s done =
-    let read = given_Ok (ReadsAsModule text) (λ m. ChangesModules h.group (with_module h.now name text) h) g done in
-    let formed = formed_now h.primitives h.now h.group s.1 in
-    modules_sound (with_module h.now name text) h g s (formed.0, have_with IsReadable h.now.modules name text formed.1 (read.0, read.1)) read.2
+    let read = given_Ok (ReadsAsModuleOf h.limits.max_tokens text) (λ m. ChangesModules h.group (with_module h.now name text) h) g done in
+    let formed = formed_now h.primitives h.limits.max_tokens h.now h.group s.1 in
+    modules_sound (with_module h.now name text) h g s (formed.0, have_with (IsReadable h.limits.max_tokens) h.now.modules name text formed.1 (read.0, read.1)) read.2
 step_sound (unload name) h g stands s done =
     let there = passing_Ok (module_text_of h.now name) (λ text. ChangesModules h.group (without_module h.now name) h) g done in
-    let formed = formed_now h.primitives h.now h.group s.1 in
-    modules_sound (without_module h.now name) h g s (formed.0, have_without IsReadable h.now.modules name formed.1) there.2
+    let formed = formed_now h.primitives h.limits.max_tokens h.now h.group s.1 in
+    modules_sound (without_module h.now name) h g s (formed.0, have_without (IsReadable h.limits.max_tokens) h.now.modules name formed.1) there.2
 step_sound (undo k) h g stands s done =
     let there = holding_Ok (is_none h.group) Group (Passing (ok_or (undone k h) NoUndo) Leaves) g done in
     sound_whole g (moved_keeps step_back Whole whole_back k h g (whole h s (none_of h.group there.0)) (moved h g (undone k h) NoUndo there.1))
@@ -344,7 +344,7 @@ act_sound act (Err e) old new stands ok err s = subst HasSoundContents (sym err)
 -- an accepted change leads to contents by a change
 pub change_is_to_contents : ChangeIsToContents
 change_is_to_contents (set_module name text) h g change done =
-    let read = given_Ok (ReadsAsModule text) (λ m. ChangesModules h.group (with_module h.now name text) h) g done in
+    let read = given_Ok (ReadsAsModuleOf h.limits.max_tokens text) (λ m. ChangesModules h.group (with_module h.now name text) h) g done in
     (with_module h.now name text, (modules_change h.group (with_module h.now name text) h g read.2).0)
 change_is_to_contents (unload name) h g change done =
     let there = passing_Ok (module_text_of h.now name) (λ text. ChangesModules h.group (without_module h.now name) h) g done in

@@ -12,7 +12,7 @@ use Rattle.term_changes.specs.Contents.{Contents, with_tree, without_tree, with_
 use Rattle.strategy_syntax.specs.declared.resolved.Resolved.{Resolved}
 use Rattle.strategy_check.specs.Programs.{Program}
 use Rattle.strategy_meaning.specs.Applied.{applied}
-use Rattle.session_modules.specs.Modules.{ReadsAsModule, Checks}
+use Rattle.session_modules.specs.Modules.{ReadsAsModuleOf, Checks}
 use Rattle.session_history.specs.Applying.{Meaning, ReadsAsStrategy, resolved_in, world_in, given_by}
 use Rattle.session_history.specs.History.{HistoryGroup, History, stepped, changed, undone, redone}
 use Rattle.session_modules.specs.declared.refusal.Refusal.{Refusal}
@@ -136,7 +136,7 @@ ComesTo (put name path part) h = Passing (place_of h.now name path) (PutsAt name
 ComesTo (annotate name path annotations) h =
     Passing (place_of h.now name path) (AnnotatesAt name path annotations h)
 ComesTo (set_module name text) h =
-    Given (ReadsAsModule text) (λ m. ChangesModules h.group (with_module h.now name text) h)
+    Given (ReadsAsModuleOf h.limits.max_tokens text) (λ m. ChangesModules h.group (with_module h.now name text) h)
 ComesTo (unload name) h =
     Passing (module_text_of h.now name) (λ text. ChangesModules h.group (without_module h.now name) h)
 ComesTo (apply meaning name path steps text) h =

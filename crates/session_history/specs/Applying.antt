@@ -5,6 +5,7 @@ use Rattle.std.specs.declared.result.Result.{Result}
 use Rattle.term_core.specs.Tree.{Tree}
 use Rattle.strategy_syntax.specs.Syntax.{Strategy}
 use Rattle.strategy_syntax.specs.declared.resolved.Resolved.{Resolved}
+use Rattle.strategy_tokens.specs.declared.TheConstants.{MAX_TOKENS}
 use Rattle.strategy_parse.specs.Gives.{GivesStrategy}
 use Rattle.strategy_check.specs.Faults.{Fault, Primitives, first}
 use Rattle.strategy_check.specs.Programs.{Program, faults_of, resolved}
@@ -19,9 +20,9 @@ use Rattle.session_modules.specs.declared.refusal.Refusal.TheVariants.{Fails, Sp
 abbrev pub Meaning : Type 0
 Meaning = List ℕ → List Tree → Option Tree
 
--- what a strategy text is parsed to
+-- what a strategy text is parsed to, which may have 4,000 tokens
 abbrev pub ReadsAsStrategy : List ℕ → Result Strategy Refusal → Type 0
-ReadsAsStrategy = ReadsBy GivesStrategy
+ReadsAsStrategy = ReadsBy GivesStrategy MAX_TOKENS
 
 -- this value, or the refusal that reports the fault
 abbrev pub unless_faulty : {X : Type 0} → Option Fault → X → Result X Refusal

@@ -9,6 +9,7 @@ use Rattle.std.specs.FinMap as finmap
 use Rattle.term_core.specs.Size.{height}
 use Rattle.term_core.specs.declared.TheConstants.{MAX_HEIGHT, MAX_SIZE}
 use Rattle.prim_core.specs.Signature.{Signature}
+use Rattle.strategy_tokens.specs.declared.TheConstants.{MAX_TOKENS}
 use Rattle.term_core.specs.Tree.{Tree}
 use Rattle.term_changes.specs.Contents.{Contents, Named, no_contents}
 use Rattle.strategy_check.specs.Faults.{Primitives}
@@ -32,9 +33,9 @@ pub record History : Type 0 where
   pub later : List Contents
   pub group : Option HistoryGroup
 
--- room for 100,000 terms, and budgets of up to 1,000,000 steps
+-- room for 100,000 terms, budgets of up to 1,000,000 steps, and modules of up to 4,000 tokens
 abbrev pub default_limits : Limits
-default_limits = record { max_terms = MAX_SIZE; max_steps = MAX_BUDGET }
+default_limits = record { max_terms = MAX_SIZE; max_steps = MAX_BUDGET; max_tokens = MAX_TOKENS }
 
 -- a new session with these limits and primitives
 abbrev pub empty_within : Limits → List Signature → History
@@ -93,24 +94,25 @@ abbrev pub AreLow : Named Tree → Type 0
 AreLow trees =
     (name : List ℕ) → IfSome (finmap.get trees name) (λ tree. height tree ≤ MAX_HEIGHT)
 
--- Contents are well formed if no tree is higher than 1,000, and each module text has at most 4,000
--- tokens and is a module.
-abbrev pub AreFormed : Contents → Type 0
-AreFormed c = AreLow c.trees × AreReadable c.modules
+-- Contents are well formed if no tree is higher than 1,000, and each module text is a module of no
+-- more tokens than the session's modules may have.
+abbrev pub AreFormed : ℕ → Contents → Type 0
+AreFormed most c = AreLow c.trees × AreReadable most c.modules
 
 -- They are sound if in addition the checker finds no fault in all their modules together.
-abbrev pub AreSound : Primitives → Contents → Type 0
-AreSound primitives c = AreFormed c × Finds primitives c.modules None
+abbrev pub AreSound : Primitives → ℕ → Contents → Type 0
+AreSound primitives most c = AreFormed most c × Finds primitives c.modules None
 
 -- Outside a group the current contents are sound. Inside one they are well formed, and those where
 -- it began are sound; these are still the current ones if nothing has changed.
-abbrev pub IsSoundNow : Primitives → Contents → Option HistoryGroup → Type 0
-IsSoundNow primitives c None = AreSound primitives c
-IsSoundNow primitives c (Some g) =
-    AreFormed c × AreSound primitives g.begun × OnFalse g.changed (c ≡ g.begun)
+abbrev pub IsSoundNow : Primitives → ℕ → Contents → Option HistoryGroup → Type 0
+IsSoundNow primitives most c None = AreSound primitives most c
+IsSoundNow primitives most c (Some g) =
+    AreFormed most c × AreSound primitives most g.begun × OnFalse g.changed (c ≡ g.begun)
 
 -- All contents of a history are sound: the past, the current and the later ones.
 abbrev pub HasSoundContents : History → Type 0
 HasSoundContents h =
-    AllByRecursion (AreSound h.primitives) h.past × IsSoundNow h.primitives h.now h.group
-    × AllByRecursion (AreSound h.primitives) h.later
+    AllByRecursion (AreSound h.primitives h.limits.max_tokens) h.past
+    × IsSoundNow h.primitives h.limits.max_tokens h.now h.group
+    × AllByRecursion (AreSound h.primitives h.limits.max_tokens) h.later

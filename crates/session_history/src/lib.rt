@@ -22,3 +22,10 @@ pub const MAX_BUDGET: u32 = 1_000_000;
 
 /// The most that [`Limits::max_steps`] can be on a command line.
 pub const MOST_STEPS: u32 = 4_000_000_000;
+
+/// The tokens that a module may have by default, and the fewest that [`Limits::max_tokens`] can be on
+/// a command line.
+pub const USUAL_TOKENS: u32 = 4_000;
+
+/// The most that [`Limits::max_tokens`] can be on a command line.
+pub const MOST_TOKENS: u32 = 65_535;

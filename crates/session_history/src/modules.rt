@@ -30,7 +30,8 @@ impl Timeline {
         ensures performs { PerformsBy primitives.now (set_module name.now text.now) self.old self.new result }
         ensures kept { IsKept primitives.now (contents self.new.store).modules cache.new }
     {
-        let read = read_module(self.allocator(), name, text)?;
+        let most = self.limits().max_tokens as u64;
+        let read = read_module(self.allocator(), name, text, most)?;
         let copy = copied(self.allocator(), text)?;
         let slot = self.module_slot(name)?;
         if self.in_group() {
@@ -78,7 +79,7 @@ impl Timeline {
         primitives: &Primitives<M>,
         cache: &mut ModuleCache,
     ) -> Result<(), Refusal>
-        requires readable { AreReadable (contents self.old.store).modules }
+        requires readable { AreReadable self.old.limits.max_tokens (contents self.old.store).modules }
         requires kept { IsKept primitives.now (contents self.old.store).modules cache.old }
         ensures performs { PerformsBy primitives.now commit self.old self.new result }
         ensures kept { IsKept primitives.now (contents self.new.store).modules cache.new }

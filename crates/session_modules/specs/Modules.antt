@@ -5,7 +5,8 @@ use Rattle.std.specs.declared.option.Option.{Option}
 use Rattle.std.specs.declared.result.Result.{Result}
 use Rattle.std.specs.FinMap as finmap
 use Rattle.strategy_syntax.specs.Modules.{Module}
-use Rattle.strategy_tokens.specs.declared.TheConstants.{MAX_TOKENS}
+use Rattle.strategy_tokens.specs.declared.TheConstants.{MODULE_TOKENS}
+use Rattle.strategy_tokens.specs.Items.{module_tokens}
 use Rattle.strategy_tokens.specs.declared.token.Token.{Token}
 use Rattle.strategy_tokens.specs.Tokens.{tokens}
 use Rattle.strategy_parse.specs.Gives.{GivesModule}
@@ -28,23 +29,27 @@ ReadsWithin n most Gives none (Ok x) = (n ≤ most) × Gives x
 ReadsWithin {X} n most Gives none (Err refusal) =
     ((refusal ≡ Deep) × (most < n)) ⊎ ((refusal ≡ none) × (n ≤ most) × ((x : X) → Gives x → ⊥))
 
--- What a text is parsed to, by a relation on its tokens, of which it may have 4,000.
-abbrev pub ReadsBy : {X : Type 0} → (List Token → X → Type 0) → List ℕ → Result X Refusal → Type 0
-ReadsBy Gives text = ReadsWithin (length (tokens text)) MAX_TOKENS (Gives (tokens text)) Syntax
+-- What a text is parsed to, by a relation on its tokens, of which it may have so many.
+abbrev pub ReadsBy : {X : Type 0} → (List Token → X → Type 0) → ℕ → List ℕ → Result X Refusal → Type 0
+ReadsBy Gives most text = ReadsWithin (length (tokens text)) most (Gives (tokens text)) Syntax
 
 -- the texts with this one under the name, or with none
 abbrev pub changed_text : Texts → List ℕ → Option (List ℕ) → Texts
 changed_text texts name None = finmap.remove texts name
 changed_text texts name (Some text) = finmap.insert texts name text
 
--- what a module text is parsed to
-abbrev pub ReadsAsModule : List ℕ → Result Module Refusal → Type 0
-ReadsAsModule = ReadsBy GivesModule
+-- what a module text is parsed to where modules may have so many tokens
+abbrev pub ReadsAsModuleOf : ℕ → List ℕ → Result Module Refusal → Type 0
+ReadsAsModuleOf most text = ReadsBy GivesModule (module_tokens most (tokens text)) text
 
--- each text is a module
-abbrev pub AreReadable : Texts → Type 0
-AreReadable texts =
-    (name : List ℕ) → IfSome (finmap.get texts name) (λ text. (m : Module) × ReadsAsModule text (Ok m))
+-- what it is parsed to where they may have as many as any module
+abbrev pub ReadsAsModule : List ℕ → Result Module Refusal → Type 0
+ReadsAsModule = ReadsAsModuleOf MODULE_TOKENS
+
+-- each text is a module of no more tokens
+abbrev pub AreReadable : ℕ → Texts → Type 0
+AreReadable most texts =
+    (name : List ℕ) → IfSome (finmap.get texts name) (λ text. (m : Module) × ReadsAsModuleOf most text (Ok m))
 
 -- The texts of these names are parsed to these modules, in order.
 abbrev pub AreRead : Texts → List (List ℕ) → Modules → Type 0

@@ -19,6 +19,7 @@ use prim_core::{Meaning, Primitives};
 use std::alloc::Global;
 use std::cmp::Ordering;
 use strategy_check::{Checked, NamedModule, Program};
+use strategy_parse::MODULE_TOKENS;
 use term_core::{Label, NoMemory};
 
 /// Checked modules, with the text that each was read from, in the same order. Each text has a number
@@ -317,7 +318,7 @@ fn read_once(store: &Store, name: &Label, read: &mut Vec<ReadModule>) -> Result<
     };
     match take_read(read, name, text) {
         Some(module) => Ok(module),
-        None => read_module(*read.allocator(), name, text),
+        None => read_module(*read.allocator(), name, text, MODULE_TOKENS),
     }
 }
 

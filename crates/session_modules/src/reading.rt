@@ -4,7 +4,7 @@
 ghost use Rattle.std.specs.Prelude.{◌≡◌, ◌⊎◌, ◌++◌, ◌∷◌, [], true, Ok, Err, IfOk, IfErr, IfSome, OnOk, option_copied};
 ghost use Rattle.std.specs.FinMap as finmap;
 ghost use Rattle.term_changes.specs.Slots.{contents};
-ghost use Rattle.session_modules.specs.Modules.{ReadsAsModule};
+ghost use Rattle.session_modules.specs.Modules.{ReadsAsModule, ReadsAsModuleOf};
 
 use crate::Refusal;
 use change_log::{Store, Text};
@@ -28,7 +28,7 @@ impl Model for ReadModule {
     ghost use Rattle.strategy_syntax.specs.Modules.{Module};
     ghost use Rattle.strategy_check.specs.inside.CheckedCodes.{named_code};
     ghost use Rattle.term_changes.specs.inside.Codes.{text_code};
-    ghost use Rattle.session_modules.specs.Modules.{ReadsAsModule};
+    ghost use Rattle.session_modules.specs.Modules.{ReadsAsModule, ReadsAsModuleOf};
 
     ghost Value = { List ℕ × (List ℕ × Module) };
 
@@ -64,15 +64,20 @@ impl ReadModule {
     }
 }
 
-/// Reads the text of the module of this name.
-pub fn read_module(alloc: Global, name: &Label, text: &[u8]) -> Result<ReadModule, Refusal>
+/// Reads the text of the module of this name. It may have `most` tokens, as `parse_module` has it.
+pub fn read_module(
+    alloc: Global,
+    name: &Label,
+    text: &[u8],
+    most: u64,
+) -> Result<ReadModule, Refusal>
     ensures text { IfOk result (λ read. read.0 ≡ text.now) }
     ensures named { IfOk result (λ read. read.1.0 ≡ name.now) }
-    ensures reads { IfOk result (λ read. ReadsAsModule text.now (Ok read.1.1)) }
+    ensures reads { IfOk result (λ read. ReadsAsModuleOf most text.now (Ok read.1.1)) }
     ensures refused { IfErr result (λ refusal. (refusal ≡ Refusal.Memory)
-        ⊎ ReadsAsModule text.now (Err refusal)) }
+        ⊎ ReadsAsModuleOf most text.now (Err refusal)) }
 {
-    match parse_module(alloc, text) {
+    match parse_module(alloc, text, most) {
         Ok(module) => Ok(with_name(alloc, name, text, module)?),
         Err(fault) => Err(Refusal::from(fault)),
     }

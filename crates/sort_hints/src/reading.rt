@@ -3,7 +3,9 @@
 use crate::signature::Signature;
 use crate::sorts::{DEEPEST, Sort};
 use std::alloc::Global;
-use strategy_tokens::{Keyword, Sign, Token, TokensFault, is_mark, is_word, read_tokens};
+use strategy_tokens::{
+    Keyword, MODULE_TOKENS, Sign, Token, TokensFault, is_mark, is_word, read_module_tokens,
+};
 use term_core::{Name, NoMemory};
 
 // The most sorts of which anything is said.
@@ -40,7 +42,7 @@ fn read_text(
     if !has_section(text) {
         return Ok(true);
     }
-    let tokens = match read_tokens(alloc, text) {
+    let tokens = match read_module_tokens(alloc, text, MODULE_TOKENS) {
         Ok(tokens) => tokens,
         Err(TokensFault::Memory) => return Err(NoMemory),
         Err(TokensFault::Deep) => return Ok(false),

@@ -28,7 +28,7 @@ use observing::{Form, Observer, Wanted};
 use prim_core::{Meaning, Primitive, Primitives};
 use prim_extended::extended_primitives;
 use reading::{ScriptFile, limit_of, read_file};
-use room::{NEEDED, too_small_stack};
+use room::{needed_stack, too_small_stack};
 use script_core::{
     Answer, Counted, Framing, RunFault, Settings, Sink, Source, Summary, run, run_watched, status,
 };
@@ -69,18 +69,21 @@ fn start(rt: &HostRuntime) -> u8 {
 
 fn start_with(rt: &HostRuntime, words: &[String]) -> u8 {
     match arguments(rt.alloc(), words) {
-        Ok(line) => match too_small_stack(rt) {
-            None => run_line(rt, &line),
-            Some(bytes) => refuse_stack(rt, bytes),
-        },
+        Ok(line) => {
+            let needed = needed_stack(line.max_tokens);
+            match too_small_stack(rt, needed) {
+                None => run_line(rt, &line),
+                Some(bytes) => refuse_stack(rt, bytes, needed),
+            }
+        }
         Err(error) => refuse_line(rt, &error),
     }
 }
 
 // Says that the stack is too small. The deepest terms and strategies would overflow it, and answers
 // would be lost.
-fn refuse_stack(rt: &HostRuntime, bytes: u64) -> u8 {
-    let (has, needed) = (bytes / 1024, NEEDED / 1024);
+fn refuse_stack(rt: &HostRuntime, bytes: u64, needed: u64) -> u8 {
+    let (has, needed) = (bytes / 1024, needed / 1024);
     let _ = eprintln!(rt;
         "stratbench: no memory: the stack has {has} KiB, and a session needs {needed} (`ulimit -s` sets it)"
     );

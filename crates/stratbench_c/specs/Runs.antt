@@ -100,6 +100,10 @@ IsNew work = IfSome work (λ it. IsNewWithin default_limits it × (it.stop ≡ N
 
 -- ---- limits
 
+-- The limits of a session with room for so many terms and such budgets; its modules may have 4,000 tokens.
+abbrev pub limits_of : ℕ → ℕ → Limits
+limits_of terms steps = record default_limits { max_terms = terms; max_steps = steps }
+
 -- These are limits: at least those by default, and at most 1,000,000,000 terms and 4,000,000,000 steps.
 abbrev pub AreLimits : Limits → Type 0
 AreLimits limits =

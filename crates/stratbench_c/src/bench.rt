@@ -7,7 +7,7 @@ ghost use Rattle.script_text.specs.Answer.{ReplyInRun, TellsRefusal};
 ghost use Rattle.script_text.specs.FedRight.{handed_out};
 ghost use Rattle.script_text.specs.declared.framing.Framing.TheVariants.{Continued, Lines};
 ghost use Rattle.stratbench_c.specs.Status.{HasCause};
-ghost use Rattle.stratbench_c.specs.Runs.{Adds, AreCopied, ExplainedAt, IsNew, IsNewWithin, IsUntouched, LimitedAt, Ran, RanAt, TellsExplained, TellsLimited, TellsRun, answers_of, ends_of, hints_of, most_steps as most_steps_of};
+ghost use Rattle.stratbench_c.specs.Runs.{Adds, AreCopied, ExplainedAt, IsNew, IsNewWithin, IsUntouched, LimitedAt, Ran, RanAt, TellsExplained, TellsLimited, TellsRun, answers_of, ends_of, hints_of, limits_of, most_steps as most_steps_of};
 
 use crate::answers::{Answers, Unanswered};
 use crate::hints::Hints;
@@ -188,7 +188,7 @@ pub fn make(alloc: Global) -> Bench
 /// Begins the session anew, with these limits: a number of terms from 100,000 to 1,000,000,000, and a
 /// number of steps from 1,000,000 to 4,000,000,000. Returns the number of the status, or `NO_LIMITS`.
 pub fn set_limits(bench: &mut Bench, max_terms: u32, max_steps: u32) -> u32
-    ensures { TellsLimited (record { max_terms = max_terms; max_steps = max_steps }) result bench.old.work bench.new.work }
+    ensures { TellsLimited (limits_of max_terms max_steps) result bench.old.work bench.new.work }
 {
     let usual = Limits::default();
     if max_terms < usual.max_terms || max_terms > MAX_ROOM {
@@ -200,6 +200,7 @@ pub fn set_limits(bench: &mut Bench, max_terms: u32, max_steps: u32) -> u32
     let limits = Limits {
         max_terms,
         max_steps,
+        max_tokens: usual.max_tokens,
     };
     limited_at(bench, limits).code()
 }

@@ -3,7 +3,7 @@
 ghost use Rattle.script_text.specs.declared.framing.Framing.TheVariants.{Continued, Lines};
 ghost use Rattle.session_loading.specs.Loading.{LoadsModule, LoadsTree};
 ghost use Rattle.stratbench_c.specs.Loads.{TellsLibrary, TellsLoad, TellsShown};
-ghost use Rattle.stratbench_c.specs.Runs.{AreCopied, IsNew, MakesStopper, TellsExplained, TellsLimited, TellsRun, TellsStop, answers_of, ends_of, hints_of};
+ghost use Rattle.stratbench_c.specs.Runs.{AreCopied, IsNew, MakesStopper, TellsExplained, TellsLimited, TellsRun, TellsStop, answers_of, ends_of, hints_of, limits_of};
 ghost use Rattle.stratbench_c.specs.declared.bench.Bench.{Bench as AnyBench};
 ghost use Rattle.stratbench_c.specs.contracts.bench.Bench as R;
 ghost use Rattle.stratbench_c.specs.declared.stopping.Stopper.{Stopper as AnyStopper};
@@ -48,7 +48,7 @@ pub unsafe extern "C" fn stratbench_limits(handle: *mut u8, max_terms: u32, max_
     ghost old: { AnyBench }
     requires* { sem 𝓛 (lies_at R.the_row full_share handle old) }
     ensures* { ∃ₛ (λ (new : AnyBench). sem 𝓛 (lies_at R.the_row full_share handle new)
-        ∗ ⌜ TellsLimited (record { max_terms = max_terms; max_steps = max_steps }) result old.work new.work ⌝) }
+        ∗ ⌜ TellsLimited (limits_of max_terms max_steps) result old.work new.work ⌝) }
 {
     set_limits(&mut *(handle as *mut Bench), max_terms, max_steps)
 }

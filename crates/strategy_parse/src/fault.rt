@@ -6,7 +6,7 @@ use thiserror::Error;
 /// Why a text wasn't parsed.
 #[derive(Clone, Copy, Debug, PartialEq, Eq, Error)]
 pub enum ParseFault {
-    /// The text has more than 4,000 tokens.
+    /// The text has too many tokens.
     #[error("deep")]
     Deep,
     /// The text is no strategy, or no module.

@@ -15,5 +15,5 @@ pub use stands::{
     bytes_of, declaration_stands_at, definition_stands_at, pattern_stands_at, stands_at,
 };
 pub use strategy::parse_strategy;
-pub use strategy_tokens::{MAX_TOKENS, token_count};
+pub use strategy_tokens::{MAX_TOKENS, MODULE_TOKENS, token_count};
 pub use stuck::{Stuck, stuck_strategy};

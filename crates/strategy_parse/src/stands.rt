@@ -6,6 +6,7 @@ ghost use Rattle.strategy_syntax.specs.Syntax as syntax;
 ghost use Rattle.strategy_parse.specs.Gives.{GivesStrategy, GivesPattern, GivesDefinition, GivesDeclaration};
 ghost use Rattle.strategy_parse.specs.inside.ModuleFronts.{listed};
 ghost use Rattle.strategy_tokens.specs.Places.{places};
+ghost use Rattle.strategy_tokens.specs.Items.{module_tokens};
 ghost use Rattle.strategy_tokens.specs.Tokens.{tokens};
 ghost use Rattle.strategy_tokens.specs.declared.token.Token.{Token};
 
@@ -13,13 +14,15 @@ use crate::modules::{read_declaration, read_definition};
 use crate::parser::{SyntaxFault, read_pattern, read_strategy};
 use std::alloc::Global;
 use strategy_syntax::{Constructor, Definition, Pattern, Strategy};
-use strategy_tokens::{MAX_TOKENS, Token, TokenPlace, TokensFault, read_tokens, token_place};
+use strategy_tokens::{
+    MODULE_TOKENS, Token, TokenPlace, TokensFault, read_module_tokens, token_place,
+};
 use term_core::NoMemory;
 
 /// Whether the tokens of the text from the number `first` up to before `end`, counted from 0, are
 /// the strategy.
 ///
-/// Errors: `Deep` if the text has more than 4,000 tokens, which is tested first; `Memory` if memory
+/// Errors: `Deep` if no module may have so many tokens, which is tested first; `Memory` if memory
 /// can't grow.
 pub fn stands_at(
     alloc: Global,
@@ -28,7 +31,8 @@ pub fn stands_at(
     end: usize,
     strategy: &Strategy,
 ) -> Result<bool, TokensFault>
-    ensures deep { (result ≡ Err TokensFault.Deep) ↔ (MAX_TOKENS < length (tokens text.now)) }
+    ensures deep { (result ≡ Err TokensFault.Deep)
+        ↔ (module_tokens MODULE_TOKENS (tokens text.now) < length (tokens text.now)) }
     ensures there { IfOk result (λ stands. stands ≡ true → end ≤ length (tokens text.now)) }
     ensures stands { IfOk result (λ stands. stands ≡ true
         → GivesStrategy (take (end - first) (drop first (tokens text.now))) strategy.now) }
@@ -36,7 +40,7 @@ pub fn stands_at(
         → end ≤ length (tokens text.now)
         → GivesStrategy (take (end - first) (drop first (tokens text.now))) strategy.now → ⊥) }
 {
-    let tokens = read_tokens(alloc, text)?;
+    let tokens = read_module_tokens(alloc, text, MODULE_TOKENS)?;
     if end < first || tokens.len() < end {
         return Ok(false);
     }
@@ -66,7 +70,8 @@ pub fn pattern_stands_at(
     end: usize,
     pattern: &Pattern,
 ) -> Result<bool, TokensFault>
-    ensures deep { (result ≡ Err TokensFault.Deep) ↔ (MAX_TOKENS < length (tokens text.now)) }
+    ensures deep { (result ≡ Err TokensFault.Deep)
+        ↔ (module_tokens MODULE_TOKENS (tokens text.now) < length (tokens text.now)) }
     ensures there { IfOk result (λ stands. stands ≡ true → end ≤ length (tokens text.now)) }
     ensures stands { IfOk result (λ stands. stands ≡ true
         → GivesPattern (take (end - first) (drop first (tokens text.now))) pattern.now) }
@@ -74,7 +79,7 @@ pub fn pattern_stands_at(
         → end ≤ length (tokens text.now)
         → GivesPattern (take (end - first) (drop first (tokens text.now))) pattern.now → ⊥) }
 {
-    let tokens = read_tokens(alloc, text)?;
+    let tokens = read_module_tokens(alloc, text, MODULE_TOKENS)?;
     if end < first || tokens.len() < end {
         return Ok(false);
     }
@@ -104,7 +109,8 @@ pub fn definition_stands_at(
     end: usize,
     definition: &Definition,
 ) -> Result<bool, TokensFault>
-    ensures deep { (result ≡ Err TokensFault.Deep) ↔ (MAX_TOKENS < length (tokens text.now)) }
+    ensures deep { (result ≡ Err TokensFault.Deep)
+        ↔ (module_tokens MODULE_TOKENS (tokens text.now) < length (tokens text.now)) }
     ensures there { IfOk result (λ stands. stands ≡ true → end ≤ length (tokens text.now)) }
     ensures stands { IfOk result (λ stands. stands ≡ true
         → GivesDefinition (take (end - first) (drop first (tokens text.now))) definition.now) }
@@ -112,7 +118,7 @@ pub fn definition_stands_at(
         → end ≤ length (tokens text.now)
         → GivesDefinition (take (end - first) (drop first (tokens text.now))) definition.now → ⊥) }
 {
-    let tokens = read_tokens(alloc, text)?;
+    let tokens = read_module_tokens(alloc, text, MODULE_TOKENS)?;
     if end < first || tokens.len() < end {
         return Ok(false);
     }
@@ -142,7 +148,8 @@ pub fn declaration_stands_at(
     end: usize,
     constructor: &Constructor,
 ) -> Result<bool, TokensFault>
-    ensures deep { (result ≡ Err TokensFault.Deep) ↔ (MAX_TOKENS < length (tokens text.now)) }
+    ensures deep { (result ≡ Err TokensFault.Deep)
+        ↔ (module_tokens MODULE_TOKENS (tokens text.now) < length (tokens text.now)) }
     ensures there { IfOk result (λ stands. stands ≡ true → end ≤ length (tokens text.now)) }
     ensures stands { IfOk result (λ stands. stands ≡ true
         → GivesDeclaration (take (end - first) (drop first (tokens text.now))) constructor.now) }
@@ -150,7 +157,7 @@ pub fn declaration_stands_at(
         → end ≤ length (tokens text.now)
         → GivesDeclaration (take (end - first) (drop first (tokens text.now))) constructor.now → ⊥) }
 {
-    let tokens = read_tokens(alloc, text)?;
+    let tokens = read_module_tokens(alloc, text, MODULE_TOKENS)?;
     if end < first || tokens.len() < end {
         return Ok(false);
     }

@@ -3,7 +3,7 @@
 
 use std::alloc::Global;
 use std::test::Fail;
-use strategy_parse::{parse_module, parse_strategy};
+use strategy_parse::{MAX_TOKENS, parse_module, parse_strategy};
 use strategy_syntax::{Module, Strategy};
 
 // In a box, here and below: a box is dropped by a call, while the drop of its content is proved
@@ -13,7 +13,7 @@ fn strategy(alloc: Global, text: &[u8]) -> Result<Box<Strategy>, Fail> {
 }
 
 fn module(alloc: Global, text: &str) -> Result<Box<Module>, Fail> {
-    Ok(Box::new(alloc, parse_module(alloc, text.as_bytes())?)?)
+    Ok(Box::new(alloc, parse_module(alloc, text.as_bytes(), MAX_TOKENS)?)?)
 }
 
 fn are_alike(alloc: Global, one: &[u8], other: &[u8]) -> Result<bool, Fail> {

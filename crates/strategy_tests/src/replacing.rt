@@ -7,12 +7,12 @@ use prim_core::{NoPrimitives, Primitives};
 use std::alloc::Global;
 use std::test::Fail;
 use strategy_check::{CheckFault, Checked, FaultKind, NamedModule};
-use strategy_parse::parse_module;
+use strategy_parse::{MAX_TOKENS, parse_module};
 use term_core::Label;
 
 fn read_module(alloc: Global, text: &str) -> Result<NamedModule, Fail> {
     let name = Label::read(alloc, b"m")?;
-    let module = parse_module(alloc, text.as_bytes())?;
+    let module = parse_module(alloc, text.as_bytes(), MAX_TOKENS)?;
     Ok(NamedModule::new(alloc, name, module)?)
 }
 

@@ -4,3 +4,4 @@ pub mod StringLemmas
 pub mod MarkLemmas
 pub mod PlaceLemmas
 pub mod LocalLemmas
+pub mod ItemLemmas

@@ -1,4 +1,5 @@
 pub mod Tokens
+pub mod Items
 pub mod Places
 pub mod Laws
 pub mod Marks

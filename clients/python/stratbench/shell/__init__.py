@@ -1,6 +1,7 @@
 """The shell: a session of the workbench at a terminal.
 
-    python -m stratbench [--no-library] [--steps N] [--max-steps N] [--max-terms N] [--program FILE] [FILES..]
+    python -m stratbench [--no-library] [--steps N] [--max-steps N] [--max-terms N] [--max-tokens N]
+                         [--program FILE] [FILES..]
 
 A line is a command of the workbench, or one of the shell's own, which begins with a colon; `:help` lists these.
 `docs/manual/shell.md` is the manual.
@@ -28,6 +29,7 @@ def _arguments(words: Sequence[str] | None) -> argparse.Namespace:
     parser.add_argument("--no-library", action="store_true", help="don't load the library of traversals")
     parser.add_argument("--steps", type=int, metavar="N", help="the budget of an apply that names none")
     parser.add_argument("--max-steps", type=int, metavar="N", help="the greatest budget, from 1,000,000 to 4,000,000,000")
+    parser.add_argument("--max-tokens", type=int, metavar="N", help="the most tokens of a module, from 4,000 to 65,535")
     parser.add_argument("--max-terms", type=int, metavar="N", help="the greatest size of a term, from 100,000 to 1,000,000,000")
     parser.add_argument("--program", metavar="FILE", help="stratbench, where it isn't in PATH or STRATBENCH")
     parser.add_argument("--version", action="store_true", help="say the version, and do nothing else")
@@ -79,7 +81,7 @@ def main(words: Sequence[str] | None = None) -> int:
     except BadSettings as error:
         print(error, file=sys.stderr)
         return 2
-    limits = {"steps": given.steps, "max_steps": given.max_steps, "max_terms": given.max_terms}
+    limits = {"steps": given.steps, "max_steps": given.max_steps, "max_terms": given.max_terms, "max_tokens": given.max_tokens}
     try:
         session = Session(_say, library=settings.library and not given.no_library, program=given.program, **limits)
     except OSError as error:

@@ -24,8 +24,8 @@ group_code =
 
 abbrev pub limits_code : Coded Limits
 limits_code =
-    code_by (ℕ × ℕ) (coded× coded_ℕ coded_ℕ) (λ l. (l.max_terms, l.max_steps))
-    (λ p. record { max_terms = p.0; max_steps = p.1 }) (λ _. refl)
+    code_by (ℕ × (ℕ × ℕ)) (coded× coded_ℕ (coded× coded_ℕ coded_ℕ)) (λ l. (l.max_terms, (l.max_steps, l.max_tokens)))
+    (λ p. record { max_terms = p.0; max_steps = p.1.0; max_tokens = p.1.1 }) (λ _. refl)
 
 -- the past and the later contents, the current ones, the primitives, the limits, and the group
 abbrev Parts : Type 0

@@ -1,13 +1,14 @@
 //! Where the definitions of a module are.
 
 ghost use Rattle.std.specs.Prelude.{◌≡◌, ◌↔◌, ◌<◌, length, Err};
+ghost use Rattle.strategy_tokens.specs.Items.{module_tokens};
 ghost use Rattle.strategy_tokens.specs.Tokens.{tokens};
 
 use crate::modules::parse::after_title;
 use crate::modules::sections::{Built, Context, read_next};
 use crate::parser::SyntaxFault;
 use std::alloc::Global;
-use strategy_tokens::{MAX_TOKENS, Token, TokensFault, read_tokens};
+use strategy_tokens::{MODULE_TOKENS, Token, TokensFault, read_module_tokens};
 use term_core::NoMemory;
 
 /// The tokens of a definition, by their numbers, counted from 0.
@@ -22,12 +23,13 @@ pub struct DefinitionTokens {
 /// The tokens of each definition of a module, in the order of the text. If the text is no module,
 /// these are the definitions before the item that can't go on.
 ///
-/// Errors: `Deep` if the text has more than 4,000 tokens, which is tested first; `Memory` if memory
+/// Errors: `Deep` if no module may have so many tokens, which is tested first; `Memory` if memory
 /// can't grow.
 pub fn definition_tokens(alloc: Global, text: &[u8]) -> Result<Vec<DefinitionTokens>, TokensFault>
-    ensures deep { (result ≡ Err TokensFault.Deep) ↔ (MAX_TOKENS < length (tokens text.now)) }
+    ensures deep { (result ≡ Err TokensFault.Deep)
+        ↔ (module_tokens MODULE_TOKENS (tokens text.now) < length (tokens text.now)) }
 {
-    let tokens = read_tokens(alloc, text)?;
+    let tokens = read_module_tokens(alloc, text, MODULE_TOKENS)?;
     match find_definitions(alloc, &tokens) {
         Ok(found) => Ok(found),
         Err(NoMemory) => Err(TokensFault::Memory),

@@ -4,6 +4,7 @@ ghost use Rattle.std.specs.Prelude.{◌≡◌, ◌↔◌, ◌<◌, length, IfOk,
 ghost use Rattle.strategy_syntax.specs.Modules as syntax;
 ghost use Rattle.strategy_parse.specs.Gives.{GivesModule};
 ghost use Rattle.strategy_parse.specs.inside.Sections.{Left};
+ghost use Rattle.strategy_tokens.specs.Items.{module_tokens};
 ghost use Rattle.strategy_tokens.specs.Tokens.{tokens};
 
 use crate::ParseFault;
@@ -12,22 +13,25 @@ use crate::modules::tokens::{after_ident, after_word};
 use crate::parser::SyntaxFault;
 use std::alloc::Global;
 use strategy_syntax::Module;
-use strategy_tokens::{Keyword, MAX_TOKENS, Token, read_tokens};
+use strategy_tokens::{Keyword, Token, read_module_tokens};
 
 /// The module that a text is, with its rules and strategies in their core forms. The name after
-/// `module` isn't used. The empty text is an empty module.
+/// `module` isn't used. The empty text is an empty module. It may have `most` tokens, which counts
+/// as 4,000 where it is less, and as 65,535 where it is more; none of its items may have more than
+/// 4,000.
 ///
-/// Errors: `Deep` if the text has more than 4,000 tokens, which is tested first; `Syntax` if it is
-/// no module; `Memory` if memory can't grow.
-pub fn parse_module(alloc: Global, text: &[u8]) -> Result<Module, ParseFault>
-    ensures deep { (result ≡ Err ParseFault.Deep) ↔ (MAX_TOKENS < length (tokens text.now)) }
+/// Errors: `Deep` if the text has more tokens, which is tested first; `Syntax` if it is no module;
+/// `Memory` if memory can't grow.
+pub fn parse_module(alloc: Global, text: &[u8], most: u64) -> Result<Module, ParseFault>
+    ensures deep { (result ≡ Err ParseFault.Deep)
+        ↔ (module_tokens most (tokens text.now) < length (tokens text.now)) }
     ensures given { IfOk result (λ m. GivesModule (tokens text.now) m) }
     ensures only { IfOk result (λ m. (r : syntax.Module) → GivesModule (tokens text.now) r
         → r ≡ m) }
     ensures no_module { result ≡ Err ParseFault.Syntax → (r : syntax.Module)
         → GivesModule (tokens text.now) r → ⊥ }
 {
-    let tokens = read_tokens(alloc, text)?;
+    let tokens = read_module_tokens(alloc, text, most)?;
     let sections = after_title(&tokens)?;
     let module = read_sections(alloc, sections)?;
     Ok(module)

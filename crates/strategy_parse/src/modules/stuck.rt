@@ -3,6 +3,7 @@
 ghost use Rattle.std.specs.Prelude.{◌≡◌, ◌↔◌, ◌<◌, ◌⊎◌, length, IfOk, IfSome, IfNone, Err, true, false};
 ghost use Rattle.strategy_parse.specs.StuckModules.{GiveModule, GiveNone, ModuleStuckAt};
 ghost use Rattle.strategy_parse.specs.inside.ModulePlaces.{CanEnd};
+ghost use Rattle.strategy_tokens.specs.Items.{module_tokens};
 ghost use Rattle.strategy_tokens.specs.Tokens.{tokens};
 
 use crate::modules::parse::after_title;
@@ -10,7 +11,7 @@ use crate::modules::place::{ModulePlace, cross, ends_before, next_place};
 use crate::modules::sections::read_sections;
 use crate::parser::SyntaxFault;
 use std::alloc::Global;
-use strategy_tokens::{MAX_TOKENS, Token, TokensFault, read_tokens};
+use strategy_tokens::{MODULE_TOKENS, Token, TokensFault, read_module_tokens};
 use term_core::NoMemory;
 
 /// Where a text stops being the beginning of a module. Tokens are counted from 0.
@@ -26,16 +27,17 @@ pub struct StuckModule {
 
 /// Where the text stops being the beginning of a module; `None` if it is a module.
 ///
-/// Errors: `Deep` if the text has more than 4,000 tokens, which is tested first; `Memory` if memory
+/// Errors: `Deep` if no module may have so many tokens, which is tested first; `Memory` if memory
 /// can't grow.
 pub fn stuck_module(alloc: Global, text: &[u8]) -> Result<Option<StuckModule>, TokensFault>
-    ensures deep { (result ≡ Err TokensFault.Deep) ↔ (MAX_TOKENS < length (tokens text.now)) }
+    ensures deep { (result ≡ Err TokensFault.Deep)
+        ↔ (module_tokens MODULE_TOKENS (tokens text.now) < length (tokens text.now)) }
     ensures none { IfOk result (λ found. IfNone found (GiveModule (tokens text.now))) }
     ensures some { IfOk result (λ found. IfSome found (λ s. GiveNone (tokens text.now))) }
     ensures stuck { IfOk result (λ found. IfSome found (λ s.
         ModuleStuckAt (tokens text.now) s.item s.token)) }
 {
-    let tokens = read_tokens(alloc, text)?;
+    let tokens = read_module_tokens(alloc, text, MODULE_TOKENS)?;
     match first_stuck_item(alloc, &tokens) {
         Ok(found) => Ok(found),
         Err(NoMemory) => Err(TokensFault::Memory),

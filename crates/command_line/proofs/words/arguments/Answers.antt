@@ -101,6 +101,15 @@ returns-in-Ok-clause-max_terms g c =
     (λ e. c.number_of.ensures.none (terms_text ∙ e)) (λ t e. c.number_of.ensures.read t (terms_text ∙ e)) (λ t e. c.number_of.ensures.other t (terms_text ∙ e)) in
     terms
 
+pub returns-in-Ok-clause-max_tokens : goal.returns-in-Ok-clause-max_tokens
+returns-in-Ok-clause-max_tokens g c =
+    let words : List Text = map g.S.AsStr.text c.args.words.now in
+    let rows = rows_are _ words c.in_ok-matches.matches c.in_ok-matches.ensures.ok.2 c.in_ok-command.ensures in
+    let tokens_text = one_text-rows (found_of c.in_ok-matches.matches) (codes "max-tokens") ∙ ap (one_of (codes "max-tokens")) rows in
+    let tokens = number_is 4000 65535 4000 c.number_of-in-Ok.result (one_of (codes "max-tokens") (given words))
+    (λ e. c.number_of-in-Ok.ensures.none (tokens_text ∙ e)) (λ t e. c.number_of-in-Ok.ensures.read t (tokens_text ∙ e)) (λ t e. c.number_of-in-Ok.ensures.other t (tokens_text ∙ e)) in
+    tokens
+
 pub returns-in-Ok-clause-file : goal.returns-in-Ok-clause-file
 returns-in-Ok-clause-file g c =
     let words : List Text = map g.S.AsStr.text c.args.words.now in

@@ -3,7 +3,7 @@ use Rattle.std.specs.Prelude.{fold}
 use Rattle.std.proofs.lemmas.Result.{IfOk-weaker}
 use Rattle.clap.specs.Words.{app_of, new_app, with_rule}
 use Rattle.clap.specs.Simple.{app_of_fields, on_top}
-use Rattle.command_line.specs.Line.{files_option, flag_of, interactive_flag, max_steps_option, max_terms_option, named_app, steps_option}
+use Rattle.command_line.specs.Line.{files_option, flag_of, interactive_flag, max_steps_option, max_terms_option, max_tokens_option, named_app, steps_option}
 use Rattle.command_line.proofs.words.command.Goals as goal
 
 pub returns : goal.returns
@@ -29,27 +29,29 @@ returns c =
     c.in_ok-arg-3.ensures.shape c.max_steps_option.ensures.local ∙ ap₂ with_rule second c.max_steps_option.ensures.rule in
     let second-terms : app_of c.in_ok-arg-4.field-0 ≡ fold with_rule named_app (library ∷ steps_option ∷ max_steps_option ∷ max_terms_option ∷ []) =
     c.in_ok-arg-4.ensures.shape c.max_terms_option.ensures.local ∙ ap₂ with_rule second-steps c.max_terms_option.ensures.rule in
-    let third : app_of c.in_ok-arg-5.field-0 ≡ fold with_rule named_app (library ∷ steps_option ∷ max_steps_option ∷ max_terms_option ∷ stop ∷ []) =
-    c.in_ok-arg-5.ensures.shape c.flag-2.ensures.local ∙ ap₂ with_rule second-terms c.flag-2.ensures.rule in
-    let fourth : app_of c.in_ok-arg-6.field-0 ≡ fold with_rule named_app (library ∷ steps_option ∷ max_steps_option ∷ max_terms_option ∷ stop ∷ lines ∷ []) =
-    c.in_ok-arg-6.ensures.shape c.flag-3.ensures.local ∙ ap₂ with_rule third c.flag-3.ensures.rule in
-    let fifth : app_of c.in_ok-arg-7.field-0 ≡ fold with_rule named_app (library ∷ steps_option ∷ max_steps_option ∷ max_terms_option ∷ stop ∷ lines ∷ explain ∷ []) =
-    c.in_ok-arg-7.ensures.shape c.flag-4.ensures.local ∙ ap₂ with_rule fourth c.flag-4.ensures.rule in
+    let second-tokens : app_of c.in_ok-arg-5.field-0 ≡ fold with_rule named_app (library ∷ steps_option ∷ max_steps_option ∷ max_terms_option ∷ max_tokens_option ∷ []) =
+    c.in_ok-arg-5.ensures.shape c.max_tokens_option.ensures.local ∙ ap₂ with_rule second-terms c.max_tokens_option.ensures.rule in
+    let third : app_of c.in_ok-arg-6.field-0 ≡ fold with_rule named_app (library ∷ steps_option ∷ max_steps_option ∷ max_terms_option ∷ max_tokens_option ∷ stop ∷ []) =
+    c.in_ok-arg-6.ensures.shape c.flag-2.ensures.local ∙ ap₂ with_rule second-tokens c.flag-2.ensures.rule in
+    let fourth : app_of c.in_ok-arg-7.field-0 ≡ fold with_rule named_app (library ∷ steps_option ∷ max_steps_option ∷ max_terms_option ∷ max_tokens_option ∷ stop ∷ lines ∷ []) =
+    c.in_ok-arg-7.ensures.shape c.flag-3.ensures.local ∙ ap₂ with_rule third c.flag-3.ensures.rule in
+    let fifth : app_of c.in_ok-arg-8.field-0 ≡ fold with_rule named_app (library ∷ steps_option ∷ max_steps_option ∷ max_terms_option ∷ max_tokens_option ∷ stop ∷ lines ∷ explain ∷ []) =
+    c.in_ok-arg-8.ensures.shape c.flag-4.ensures.local ∙ ap₂ with_rule fourth c.flag-4.ensures.rule in
     let profile = flag_of (codes "profile") in
-    let sixth : app_of c.in_ok-arg-8.field-0 ≡ fold with_rule named_app (library ∷ steps_option ∷ max_steps_option ∷ max_terms_option ∷ stop ∷ lines ∷ explain ∷ profile ∷ []) =
-    c.in_ok-arg-8.ensures.shape c.flag-5.ensures.local ∙ ap₂ with_rule fifth c.flag-5.ensures.rule in
-    let seventh : app_of c.in_ok-arg-9.field-0 ≡ fold with_rule named_app (library ∷ steps_option ∷ max_steps_option ∷ max_terms_option ∷ stop ∷ lines ∷ explain ∷ profile ∷ interactive_flag ∷ []) =
-    c.in_ok-arg-9.ensures.shape c.interactive_flag.ensures.local ∙ ap₂ with_rule sixth c.interactive_flag.ensures.rule in
-    let eighth : app_of c.in_ok-arg-10.field-0 ≡ fold with_rule named_app (library ∷ steps_option ∷ max_steps_option ∷ max_terms_option ∷ stop ∷ lines ∷ explain ∷ profile ∷ interactive_flag ∷ modules ∷ []) =
-    c.in_ok-arg-10.ensures.shape c.files_option.ensures.local ∙ ap₂ with_rule seventh c.files_option.ensures.rule in
-    let ninth : app_of c.in_ok-arg-11.field-0 ≡ fold with_rule named_app (library ∷ steps_option ∷ max_steps_option ∷ max_terms_option ∷ stop ∷ lines ∷ explain ∷ profile ∷ interactive_flag ∷ modules ∷ trees ∷ []) =
-    c.in_ok-arg-11.ensures.shape c.files_option-2.ensures.local ∙ ap₂ with_rule eighth c.files_option-2.ensures.rule in
-    let tenth : app_of c.in_ok-arg-12.field-0 ≡ fold with_rule named_app (library ∷ steps_option ∷ max_steps_option ∷ max_terms_option ∷ stop ∷ lines ∷ explain ∷ profile ∷ interactive_flag ∷ modules ∷ trees ∷ writes ∷ []) =
-    c.in_ok-arg-12.ensures.shape c.files_option-3.ensures.local ∙ ap₂ with_rule ninth c.files_option-3.ensures.rule in
-    let eleventh : app_of c.in_ok-arg-13.field-0 ≡ fold with_rule named_app (library ∷ steps_option ∷ max_steps_option ∷ max_terms_option ∷ stop ∷ lines ∷ explain ∷ profile ∷ interactive_flag ∷ modules ∷ trees ∷ writes ∷ over_lines ∷ []) =
-    c.in_ok-arg-13.ensures.shape c.flag-6.ensures.local ∙ ap₂ with_rule tenth c.flag-6.ensures.rule in
-    let twelfth : app_of c.in_ok-arg-14.field-0 ≡ fold with_rule named_app (library ∷ steps_option ∷ max_steps_option ∷ max_terms_option ∷ stop ∷ lines ∷ explain ∷ profile ∷ interactive_flag ∷ modules ∷ trees ∷ writes ∷ over_lines ∷ as_json ∷ []) =
-    c.in_ok-arg-14.ensures.shape c.flag-7.ensures.local ∙ ap₂ with_rule eleventh c.flag-7.ensures.rule in
-    let thirteenth : app_of c.in_ok-arg-15.field-0 ≡ fold with_rule named_app (library ∷ steps_option ∷ max_steps_option ∷ max_terms_option ∷ stop ∷ lines ∷ explain ∷ profile ∷ interactive_flag ∷ modules ∷ trees ∷ writes ∷ over_lines ∷ as_json ∷ check ∷ []) =
-    c.in_ok-arg-15.ensures.shape c.flag-8.ensures.local ∙ ap₂ with_rule twelfth c.flag-8.ensures.rule in
-    IfOk-weaker c.arg-16.result _ _ (λ made added. added.shape c.file_name.ensures.local ∙ ap₂ with_rule thirteenth c.file_name.ensures.rule) c.arg-16.ensures
+    let sixth : app_of c.in_ok-arg-9.field-0 ≡ fold with_rule named_app (library ∷ steps_option ∷ max_steps_option ∷ max_terms_option ∷ max_tokens_option ∷ stop ∷ lines ∷ explain ∷ profile ∷ []) =
+    c.in_ok-arg-9.ensures.shape c.flag-5.ensures.local ∙ ap₂ with_rule fifth c.flag-5.ensures.rule in
+    let seventh : app_of c.in_ok-arg-10.field-0 ≡ fold with_rule named_app (library ∷ steps_option ∷ max_steps_option ∷ max_terms_option ∷ max_tokens_option ∷ stop ∷ lines ∷ explain ∷ profile ∷ interactive_flag ∷ []) =
+    c.in_ok-arg-10.ensures.shape c.interactive_flag.ensures.local ∙ ap₂ with_rule sixth c.interactive_flag.ensures.rule in
+    let eighth : app_of c.in_ok-arg-11.field-0 ≡ fold with_rule named_app (library ∷ steps_option ∷ max_steps_option ∷ max_terms_option ∷ max_tokens_option ∷ stop ∷ lines ∷ explain ∷ profile ∷ interactive_flag ∷ modules ∷ []) =
+    c.in_ok-arg-11.ensures.shape c.files_option.ensures.local ∙ ap₂ with_rule seventh c.files_option.ensures.rule in
+    let ninth : app_of c.in_ok-arg-12.field-0 ≡ fold with_rule named_app (library ∷ steps_option ∷ max_steps_option ∷ max_terms_option ∷ max_tokens_option ∷ stop ∷ lines ∷ explain ∷ profile ∷ interactive_flag ∷ modules ∷ trees ∷ []) =
+    c.in_ok-arg-12.ensures.shape c.files_option-2.ensures.local ∙ ap₂ with_rule eighth c.files_option-2.ensures.rule in
+    let tenth : app_of c.in_ok-arg-13.field-0 ≡ fold with_rule named_app (library ∷ steps_option ∷ max_steps_option ∷ max_terms_option ∷ max_tokens_option ∷ stop ∷ lines ∷ explain ∷ profile ∷ interactive_flag ∷ modules ∷ trees ∷ writes ∷ []) =
+    c.in_ok-arg-13.ensures.shape c.files_option-3.ensures.local ∙ ap₂ with_rule ninth c.files_option-3.ensures.rule in
+    let eleventh : app_of c.in_ok-arg-14.field-0 ≡ fold with_rule named_app (library ∷ steps_option ∷ max_steps_option ∷ max_terms_option ∷ max_tokens_option ∷ stop ∷ lines ∷ explain ∷ profile ∷ interactive_flag ∷ modules ∷ trees ∷ writes ∷ over_lines ∷ []) =
+    c.in_ok-arg-14.ensures.shape c.flag-6.ensures.local ∙ ap₂ with_rule tenth c.flag-6.ensures.rule in
+    let twelfth : app_of c.in_ok-arg-15.field-0 ≡ fold with_rule named_app (library ∷ steps_option ∷ max_steps_option ∷ max_terms_option ∷ max_tokens_option ∷ stop ∷ lines ∷ explain ∷ profile ∷ interactive_flag ∷ modules ∷ trees ∷ writes ∷ over_lines ∷ as_json ∷ []) =
+    c.in_ok-arg-15.ensures.shape c.flag-7.ensures.local ∙ ap₂ with_rule eleventh c.flag-7.ensures.rule in
+    let thirteenth : app_of c.in_ok-arg-16.field-0 ≡ fold with_rule named_app (library ∷ steps_option ∷ max_steps_option ∷ max_terms_option ∷ max_tokens_option ∷ stop ∷ lines ∷ explain ∷ profile ∷ interactive_flag ∷ modules ∷ trees ∷ writes ∷ over_lines ∷ as_json ∷ check ∷ []) =
+    c.in_ok-arg-16.ensures.shape c.flag-8.ensures.local ∙ ap₂ with_rule twelfth c.flag-8.ensures.rule in
+    IfOk-weaker c.arg-17.result _ _ (λ made added. added.shape c.file_name.ensures.local ∙ ap₂ with_rule thirteenth c.file_name.ensures.rule) c.arg-17.ensures

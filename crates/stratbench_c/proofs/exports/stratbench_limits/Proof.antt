@@ -30,7 +30,7 @@ use denote.Triple.Clauses.{Lasts, lasts}
 use denote.Triple.Spec.{triple_of}
 use denote.Triple.Table.{framed}
 use denote.Triple.Walked.{Stays, walk_of, stay_dropped, Goes-dropped, ends_at}
-use Rattle.stratbench_c.specs.Runs.{TellsLimited}
+use Rattle.stratbench_c.specs.Runs.{TellsLimited, limits_of}
 use Rattle.stratbench_c.specs.declared.bench.Bench.{Bench}
 use Rattle.stratbench_c.specs.contracts.bench.Bench.{the_row as R}
 use Rattle.stratbench_c.specs.contracts.exports.stratbench_limits as f
@@ -51,7 +51,7 @@ stratbench_limits_spec 𝓤 𝓛 𝓜 𝓡 wired =
     let k = a.1.0 in let kv = vint w32 k ∷ [] in let fits = are.1.0.1 in
     let n = a.1.1.0 in let nv = vint w32 n ∷ [] in let n_fits = are.1.1.0.1 in
     let y : Ptr → W.Ghost = λ p. ((κs, qs, bounds, (p, (k, (n, tt))), (rawptr_vals p, (kv, (nv, tt)))), old) in
-    let Told = λ (new : Bench) (r : ℕ). TellsLimited (record { max_terms = k; max_steps = n }) r old.work new.work in
+    let Told = λ (new : Bench) (r : ℕ). TellsLimited (limits_of k n) r old.work new.work in
     qed 𝓛 ((‵ ftrue ⊛ ‵ (RawPtr.own_val a.0 (rawptr_vals a.0)) ⊛ ‵ (u32.own_val k kv) ⊛ ‵ (u32.own_val n nv) ⊛ ‵ ftrue) ∷ ‵ (lies_at R full_share a.0 old) ∷ []) ∵
     keep ! (1 ∷ []) $
     in_a_block ! a.0 (λ p. lies_at R full_share p old) (id⊢ 𝓤 _) (λ b o e.

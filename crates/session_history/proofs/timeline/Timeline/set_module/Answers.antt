@@ -6,7 +6,7 @@ use Rattle.session_history.specs.declared.timeline.OpenGroup.{OpenGroup}
 use Rattle.session_history.proofs.timeline.Timeline.set_module.Goals as goal
 
 pub returns-in_err-read-clause-performs : goal.returns-in_err-read-clause-performs
-returns-in_err-read-clause-performs g c = set_unread _ _ _ _ _ _ c.from_residual.ensures.1 c.in_err-read.ensures.refused
+returns-in_err-read-clause-performs g c = set_unread _ _ _ _ _ _ c.from_residual.ensures.1 (rw c.limits-most.ensures.value at c.in_err-read.ensures.refused)
 
 pub returns-in_err-copy-clause-performs : goal.returns-in_err-copy-clause-performs
 returns-in_err-copy-clause-performs g c = wants_in _ _ _ _ _ c.from_residual-in_err-copy.ensures.1 (keeps_itself _)
@@ -27,7 +27,7 @@ returns-in_err-change_in_group-clause-kept g c = kept_same _ _ _ _ (keeps_furthe
 pub returns-then-in_group-clause-performs : goal.returns-then-in_group-clause-performs
 returns-then-in_group-clause-performs g c =
     set_inside _ _ _ _ _ _ _ c.in_ok-slot.ensures.slot c.module_slot.ensures.same c.in_ok-read.read.1.1 (subst (λ (o : Option OpenGroup). IsSome o) c.module_slot.ensures.group (c.in_group.ensures.inside c.if-in_group.true))
-    c.in_ok-read.ensures.reads (rw (c.text.ensures, c.in_ok-copy.ensures) at c.in_ok-change_in_group.ensures.ok)
+    (rw c.limits-most.ensures.value at c.in_ok-read.ensures.reads) (rw (c.text.ensures, c.in_ok-copy.ensures) at c.in_ok-change_in_group.ensures.ok)
 
 pub returns-then-in_group-clause-kept : goal.returns-then-in_group-clause-kept
 returns-then-in_group-clause-kept g c = c.remember.ensures c.args.primitives.now (contents c.args.self.now.store).modules (contents c.change_in_group.new.self.store).modules c.requires
@@ -37,7 +37,7 @@ change_text-requires-clause-kept g c = kept_same _ _ _ _ c.module_slot.ensures.s
 
 pub returns-clause-performs : goal.returns-clause-performs
 returns-clause-performs g c =
-    set_ends _ _ _ _ _ _ _ c.in_ok-slot.ensures.slot c.module_slot.ensures.same c.in_ok-read.read.1.1 c.in_ok-read.ensures.reads (sym c.module_slot.ensures.group ∙ c.in_group.ensures.closed c.if-in_group.false) c.change_text.result c.change_text.new.cache
+    set_ends _ _ _ _ _ _ _ c.in_ok-slot.ensures.slot c.module_slot.ensures.same c.in_ok-read.read.1.1 (rw c.limits-most.ensures.value at c.in_ok-read.ensures.reads) (sym c.module_slot.ensures.group ∙ c.in_group.ensures.closed c.if-in_group.false) c.change_text.result c.change_text.new.cache
     (rw (c.new.ensures, c.in_ok-copy.ensures) at c.change_text.ensures.ok) (rw (c.new.ensures, c.in_ok-copy.ensures) at c.change_text.ensures.current) (rw (c.new.ensures, c.in_ok-copy.ensures) at c.change_text.ensures.refused)
     c.change_text.ensures.err
 

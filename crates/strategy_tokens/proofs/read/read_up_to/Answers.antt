@@ -1,6 +1,6 @@
 use Rattle.std.proofs.Common.{arith}
 use Rattle.strategy_tokens.proofs.ScanLemmas.{tokens_step}
-use Rattle.strategy_tokens.proofs.read.read_tokens.Goals as goal
+use Rattle.strategy_tokens.proofs.read.read_up_to.Goals as goal
 
 pub loop-first-preserved : goal.loop-first-preserved
 loop-first-preserved c = (
