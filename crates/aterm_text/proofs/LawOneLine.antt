@@ -30,7 +30,12 @@ printed b h = (omega (arith, h.least), h.most)
 
 not_blank : (b : ℕ) → IsSolid b → is_blank b ≡ false
 not_blank b h =
-    rw (ne_eqb b 32 (λ e. omega (arith, h.least)), ne_eqb b 9 (λ e. omega (arith, h.least)), ne_eqb b 10 (λ e. omega (arith, h.least)), ne_eqb b 13 (λ e. omega (arith, h.least))) refl
+    rw (
+      ne_eqb b 32 (λ e. omega (arith, h.least)),
+      ne_eqb b 9 (λ e. omega (arith, h.least)),
+      ne_eqb b 10 (λ e. omega (arith, h.least)),
+      ne_eqb b 13 (λ e. omega (arith, h.least)),
+    ) refl
 
 either : {P : Type 0} (a b : Bool) → (a ≡ true → P) → (b ≡ true → P) → (a || b) ≡ true → P
 either true b p q h = p refl
@@ -57,12 +62,16 @@ begins_solid b =
 
 continues_solid : (b : ℕ) → continues_word b ≡ true → IsSolid b
 continues_solid b =
-    or_sign 39 (or_sign 46 (or_sign 36 (or_sign 42 (or_sign 43 (or_sign 45 (or_sign 95 alphanumeric refl) refl) refl) refl) refl) refl) refl
+    or_sign 39 (or_sign 46
+    (or_sign 36 (or_sign 42 (or_sign 43 (or_sign 45 (or_sign 95 alphanumeric refl) refl) refl) refl) refl) refl) refl
   where
     alphanumeric : is_ascii_alphanumeric b ≡ true → IsSolid b
-    alphanumeric = either _ _ (either _ _ (between 48 57 b (omega arith) (omega arith)) (between 65 90 b (omega arith) (omega arith))) (between 97 122 b (omega arith) (omega arith))
+    alphanumeric = either _ _
+        (either _ _ (between 48 57 b (omega arith) (omega arith)) (between 65 90 b (omega arith) (omega arith)))
+        (between 97 122 b (omega arith) (omega arith))
 
-    or_sign : {q : Bool} (c : ℕ) → (q ≡ true → IsSolid b) → (nat_le 33 c && nat_le c 126) ≡ true → (q || (b == c)) ≡ true → IsSolid b
+    or_sign : {q : Bool} (c : ℕ) → (q ≡ true → IsSolid b)
+        → (nat_le 33 c && nat_le c 126) ≡ true → (q || (b == c)) ≡ true → IsSolid b
     or_sign {q} c h t = either q (b == c) h (is_sign b c (solid c t))
 
 -- ---- lists of bytes
@@ -74,7 +83,8 @@ printed-append : (x y : List ℕ) → ArePrinted x → ArePrinted y → ArePrint
 printed-append [] y h k = k
 printed-append (b ∷ x) y h k = (h.0, printed-append x y h.1 k)
 
-all_solid : (p : ℕ → Bool) → ((b : ℕ) → p b ≡ true → IsSolid b) → (s : List ℕ) → list_all p s ≡ true → AllByRecursion IsSolid s
+all_solid : (p : ℕ → Bool) → ((b : ℕ) → p b ≡ true → IsSolid b) → (s : List ℕ)
+    → list_all p s ≡ true → AllByRecursion IsSolid s
 all_solid p h [] t = tt
 all_solid p h (b ∷ s) t = let parts = both (p b) (list_all p s) t in (h b parts.0, all_solid p h s parts.1)
 
@@ -85,11 +95,13 @@ all_printed (b ∷ s) h = (printed b h.0, all_printed s h.1)
 front-append : (x y : List ℕ) → 0 < length x → prefix_len is_blank x ≡ 0 → prefix_len is_blank (x ++ y) ≡ 0
 front-append x y some h =
     prefix_len-append is_blank x y
-    ∙ ap (λ (q : Bool). cond q (length x + prefix_len is_blank y) (prefix_len is_blank x)) (ne_eqb (prefix_len is_blank x) (length x) (λ e. omega (arith, some, h, e))) ∙ h
+    ∙ ap (λ (q : Bool). cond q (length x + prefix_len is_blank y) (prefix_len is_blank x))
+    (ne_eqb (prefix_len is_blank x) (length x) (λ e. omega (arith, some, h, e))) ∙ h
 
 end-append : (x y : List ℕ) → 0 < length y → suffix_len is_blank y ≡ 0 → suffix_len is_blank (x ++ y) ≡ 0
 end-append x y some h =
-    ap (prefix_len is_blank) (reverse-append x y) ∙ front-append (reverse y) (reverse x) (omega (arith, some, length-reverse y)) h
+    ap (prefix_len is_blank) (reverse-append x y)
+    ∙ front-append (reverse y) (reverse x) (omega (arith, some, length-reverse y)) h
 
 front-solid : (b : ℕ) (x : List ℕ) → IsSolid b → prefix_len is_blank (b ∷ x) ≡ 0
 front-solid b x h = ap (λ (q : Bool). cond q (1 + prefix_len is_blank x) 0) (not_blank b h)
@@ -105,7 +117,8 @@ line-append x y h k = record {
 }
 
 sign-line : (b : ℕ) → IsSolid b → IsOneLine (b ∷ [])
-sign-line b h = record { bytes = (printed b h, tt); some = omega arith; front = front-solid b [] h; end = front-solid b [] h }
+sign-line b h =
+    record { bytes = (printed b h, tt); some = omega arith; front = front-solid b [] h; end = front-solid b [] h }
 
 solid-line : (s : List ℕ) → 0 < length s → AllByRecursion IsSolid s → IsOneLine s
 solid-line [] some h = absurd (omega (arith, some))
@@ -120,7 +133,8 @@ enclosed o c inner h k all = record {
   end = end-append (o ∷ inner) (c ∷ []) (omega arith) (front-solid c [] k);
 }
 
-bracketed-line : (o c : ℕ) (x : List ℕ) (ts : Trees) (inner : List ℕ) → IsSolid o → IsSolid c → IsOneLine x → ArePrinted inner → IsOneLine (x ++ bracketed o c ts inner)
+bracketed-line : (o c : ℕ) (x : List ℕ) (ts : Trees) (inner : List ℕ) → IsSolid o → IsSolid c → IsOneLine x
+    → ArePrinted inner → IsOneLine (x ++ bracketed o c ts inner)
 bracketed-line o c x none inner h k l all = subst IsOneLine (sym (append-nil x)) l
 bracketed-line o c x (more t ts) inner h k l all = line-append x (o ∷ (inner ++ c ∷ [])) l (enclosed o c inner h k all)
 
@@ -129,21 +143,28 @@ bracketed-line o c x (more t ts) inner h k l all = line-append x (o ∷ (inner +
 word-line : (s : List ℕ) → IsTrue (is_word s) → IsOneLine s
 word-line [] h = absurd (cc)
 word-line (b ∷ s) h =
-    let parts : (begins_word b ≡ true) × (list_all continues_word s ≡ true) = both (begins_word b) (list_all continues_word s) h in
+    let parts : (begins_word b ≡ true) × (list_all continues_word s ≡ true) =
+    both (begins_word b) (list_all continues_word s) h in
     solid-line (b ∷ s) (omega arith) (begins_solid b parts.0, all_solid continues_word continues_solid s parts.1)
 
 decimal-line : (n : ℕ) → n < 2 ^ 64 → IsOneLine (decimal n)
 decimal-line n small =
-    solid-line (decimal n) (omega (arith, (decimal_is_IsNumeral n small).0.0)) (all_solid is_ascii_digit digit_solid (decimal n) (decimal_digits n small))
+    solid-line (decimal n) (omega (arith, (decimal_is_IsNumeral n small).0.0))
+    (all_solid is_ascii_digit digit_solid (decimal n) (decimal_digits n small))
 
 pub integer-line : (z : ℤ) → FitsSigned w64 z → IsOneLine (signed_decimal z)
 integer-line (pos n) fits = decimal-line n (omega (arith, fits.sfits))
-integer-line (negsuc n) fits = line-append (45 ∷ []) (decimal (suc n)) (sign-line 45 (solid 45 refl)) (decimal-line (suc n) (omega (arith, fits.sfits)))
+integer-line (negsuc n) fits = line-append (45 ∷ []) (decimal (suc n)) (sign-line 45 (solid 45 refl))
+    (decimal-line (suc n) (omega (arith, fits.sfits)))
 
 octal_printed : (b : ℕ) → b < 256 → ArePrinted (octal_escape b)
-octal_printed b h = ((omega arith, omega arith), ((omega arith, omega arith), ((omega arith, omega arith), ((omega arith, omega arith), tt))))
+octal_printed b h = (
+  (omega arith, omega arith),
+  ((omega arith, omega arith), ((omega arith, omega arith), ((omega arith, omega arith), tt))),
+)
 
-plain_printed : (q : Bool) (b : ℕ) → b < 256 → (q ≡ true → IsPrinted b) → ArePrinted (if q then b ∷ [] else octal_escape b)
+plain_printed : (q : Bool) (b : ℕ) → b < 256 → (q ≡ true → IsPrinted b)
+    → ArePrinted (if q then b ∷ [] else octal_escape b)
 plain_printed true b h p = (p refl, tt)
 plain_printed false b h p = octal_printed b h
 
@@ -157,18 +178,23 @@ one_of false x y p r = r
 
 escaped_printed : (b : ℕ) → b < 256 → ArePrinted (escaped b)
 escaped_printed b h =
-    one_of (b == 34) _ _ (after_backslash 34 (solid 34 refl)) (one_of (b == 92) _ _ (after_backslash 92 (solid 92 refl)) (one_of (b == 10) _ _ (after_backslash 110 (solid 110 refl))
-    (one_of (b == 9) _ _ (after_backslash 116 (solid 116 refl)) (one_of (b == 13) _ _ (after_backslash 114 (solid 114 refl)) (plain_printed (nat_lt 31 b && nat_lt b 127) b h range)))))
+    one_of (b == 34) _ _ (after_backslash 34 (solid 34 refl)) (one_of (b == 92) _ _ (after_backslash 92 (solid 92 refl))
+    (one_of (b == 10) _ _ (after_backslash 110 (solid 110 refl))
+    (one_of (b == 9) _ _ (after_backslash 116 (solid 116 refl)) (one_of (b == 13) _ _
+    (after_backslash 114 (solid 114 refl)) (plain_printed (nat_lt 31 b && nat_lt b 127) b h range)))))
   where
     range : (nat_lt 31 b && nat_lt b 127) ≡ true → IsPrinted b
-    range t = let ends = both (nat_lt 31 b) (nat_lt b 127) t in (omega (arith, ltb-true 31 b ends.0), omega (arith, ltb-true b 127 ends.1))
+    range t = let ends = both (nat_lt 31 b) (nat_lt b 127) t in
+        (omega (arith, ltb-true 31 b ends.0), omega (arith, ltb-true b 127 ends.1))
 
 items_printed : (s : List ℕ) → AllByRecursion (λ b. b < 256) s → ArePrinted (flat_map escaped s)
 items_printed [] h = tt
 items_printed (b ∷ s) h = printed-append (escaped b) (flat_map escaped s) (escaped_printed b h.0) (items_printed s h.1)
 
-name_from : (q : Bool) (s : List ℕ) → AllByRecursion (λ b. b < 256) s → IsTrue (q || is_word s) → IsOneLine (if q then 34 ∷ (flat_map escaped s ++ 34 ∷ []) else s)
-name_from true s bytes word = enclosed 34 34 (flat_map escaped s) (solid 34 refl) (solid 34 refl) (items_printed s bytes)
+name_from : (q : Bool) (s : List ℕ) → AllByRecursion (λ b. b < 256) s → IsTrue (q || is_word s)
+    → IsOneLine (if q then 34 ∷ (flat_map escaped s ++ 34 ∷ []) else s)
+name_from true s bytes word =
+    enclosed 34 34 (flat_map escaped s) (solid 34 refl) (solid 34 refl) (items_printed s bytes)
 name_from false s bytes word = word-line s word
 
 pub name-line : (name : Symbol) → IsName name → IsOneLine (print_name name)
@@ -176,7 +202,8 @@ name-line name h = name_from name.is_quoted name.text h.0 h.1
 
 -- ---- terms
 
-annotated : (x : List ℕ) (notes : Trees) → IsOneLine x → ArePrinted (print_all notes) → IsOneLine (x ++ bracketed 123 125 notes (print_all notes))
+annotated : (x : List ℕ) (notes : Trees) → IsOneLine x → ArePrinted (print_all notes)
+    → IsOneLine (x ++ bracketed 123 125 notes (print_all notes))
 annotated x notes l all = bracketed-line 123 125 x notes (print_all notes) (solid 123 refl) (solid 125 refl) l all
 
 mutual
@@ -184,21 +211,26 @@ mutual
   term-line (integer z notes) h = annotated (signed_decimal z) notes (integer-line z h.0) (all_of notes h.1)
   term-line (branch (application name) kids notes) h =
       annotated (print_name name ++ bracketed 40 41 kids (print_all kids)) notes
-      (bracketed-line 40 41 (print_name name) kids (print_all kids) (solid 40 refl) (solid 41 refl) (name-line name h.0) (all_of kids h.1)) (all_of notes h.2)
+      (bracketed-line 40 41 (print_name name) kids (print_all kids) (solid 40 refl) (solid 41 refl) (name-line name h.0)
+      (all_of kids h.1)) (all_of notes h.2)
   term-line (branch list kids notes) h =
       subst IsOneLine (append_assoc (91 ∷ print_all kids) (93 ∷ []) (bracketed 123 125 notes (print_all notes)))
-      (annotated (91 ∷ (print_all kids ++ 93 ∷ [])) notes (enclosed 91 93 (print_all kids) (solid 91 refl) (solid 93 refl) (all_of kids h.1)) (all_of notes h.2))
+      (annotated (91 ∷ (print_all kids ++ 93 ∷ [])) notes
+      (enclosed 91 93 (print_all kids) (solid 91 refl) (solid 93 refl) (all_of kids h.1)) (all_of notes h.2))
   term-line (branch tuple kids notes) h =
       subst IsOneLine (append_assoc (40 ∷ print_all kids) (41 ∷ []) (bracketed 123 125 notes (print_all notes)))
-      (annotated (40 ∷ (print_all kids ++ 41 ∷ [])) notes (enclosed 40 41 (print_all kids) (solid 40 refl) (solid 41 refl) (all_of kids h.1)) (all_of notes h.2))
+      (annotated (40 ∷ (print_all kids ++ 41 ∷ [])) notes
+      (enclosed 40 41 (print_all kids) (solid 40 refl) (solid 41 refl) (all_of kids h.1)) (all_of notes h.2))
 
   all_of : (ts : Trees) → AreTerms ts → ArePrinted (print_all ts)
   all_of none h = tt
-  all_of (more t ts) h = let first : IsOneLine (print t) = term-line t h.0 in printed-append (print t) (print_more ts) first.bytes (more_of ts h.1)
+  all_of (more t ts) h = let first : IsOneLine (print t) = term-line t h.0 in
+      printed-append (print t) (print_more ts) first.bytes (more_of ts h.1)
 
   more_of : (ts : Trees) → AreTerms ts → ArePrinted (print_more ts)
   more_of none h = tt
-  more_of (more t ts) h = let first : IsOneLine (print t) = term-line t h.0 in (printed 44 (solid 44 refl), printed-append (print t) (print_more ts) first.bytes (more_of ts h.1))
+  more_of (more t ts) h = let first : IsOneLine (print t) = term-line t h.0 in
+      (printed 44 (solid 44 refl), printed-append (print t) (print_more ts) first.bytes (more_of ts h.1))
 
 pub printed-line : PrintedTextIsOneLine
 printed-line = term-line

@@ -20,11 +20,16 @@ plain_unless b other = plain-not b ∙ at (is_byte2 quote backslash b) other
     at true other = absurd (other refl)
     at false other = refl
 
-pub found_run : (x : List ℕ) (k : ℕ) → NoneBefore (Passes (is_byte2 quote backslash) x) 0 (length x) k × Passes (is_byte2 quote backslash) x k → prefix_len is_plain x ≡ k
+pub found_run : (x : List ℕ) (k : ℕ) → NoneBefore (Passes (is_byte2 quote backslash) x) 0 (length x) k
+    × Passes (is_byte2 quote backslash) x k → prefix_len is_plain x ≡ k
 found_run x k h =
     let high : k < length x = h.0.high in
-    prefix_len_is is_plain x k 0 (omega arith) (λ i below. plain_unless (get_or x i 0) (h.0.before i (omega arith) below)) (λ _. plain-not (get_or x k 0) ∙ ap not h.1)
+    prefix_len_is is_plain x k 0 (omega arith)
+    (λ i below. plain_unless (get_or x i 0) (h.0.before i (omega arith) below))
+    (λ _. plain-not (get_or x k 0) ∙ ap not h.1)
 
-pub whole_run : (x : List ℕ) → Nowhere (Passes (is_byte2 quote backslash) x) 0 (length x) → prefix_len is_plain x ≡ length x
+pub whole_run : (x : List ℕ) → Nowhere (Passes (is_byte2 quote backslash) x) 0 (length x)
+    → prefix_len is_plain x ≡ length x
 whole_run x none =
-    prefix_len_is is_plain x (length x) 0 (omega arith) (λ i below. plain_unless (get_or x i 0) (none i (omega arith) below)) (λ h. absurd (omega (arith, h)))
+    prefix_len_is is_plain x (length x) 0 (omega arith)
+    (λ i below. plain_unless (get_or x i 0) (none i (omega arith) below)) (λ h. absurd (omega (arith, h)))

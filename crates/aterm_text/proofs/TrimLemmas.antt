@@ -29,12 +29,14 @@ module _ (x y : List ℕ) (same : without_blanks x ≡ without_blanks y) where
   sign_in : (sign : ℕ) (a : List ℕ) → NextSign sign x a → NextSign sign y a
   sign_in sign a h = sym same ∙ h
 
-  name_part : (quoted : Bool) (bytes a : List ℕ) → MatchBool quoted (NextQuoted bytes x a) (NextWord bytes x a) → MatchBool quoted (NextQuoted bytes y a) (NextWord bytes y a)
+  name_part : (quoted : Bool) (bytes a : List ℕ) → MatchBool quoted (NextQuoted bytes x a) (NextWord bytes x a)
+      → MatchBool quoted (NextQuoted bytes y a) (NextWord bytes y a)
   name_part true bytes a h = (h.0, sign_in 34 h.0 h.1, h.2)
   name_part false bytes a h = ap first_word (sym same) ∙ h
 
   pub reads_in : (t : Tree) (z : List ℕ) → Reads t x z → Reads t y z
-  reads_in (integer v notes) z h = (h.0, (subst (λ l. IsInteger (take (integer_len l) l) v × (h.0 ≡ drop (integer_len l) l)) same h.1), h.2)
+  reads_in (integer v notes) z h =
+      (h.0, (subst (λ l. IsInteger (take (integer_len l) l) v × (h.0 ≡ drop (integer_len l) l)) same h.1), h.2)
   reads_in (branch (application name) kids notes) z h = (h.0, name_part name.is_quoted name.text h.0 h.1, h.2)
   reads_in (branch list kids notes) z h = (h.0, sign_in 91 h.0 h.1, h.2)
   reads_in (branch tuple kids notes) z h = (h.0, sign_in 40 h.0 h.1, h.2)
@@ -71,7 +73,8 @@ module _ (x y : List ℕ) (same : without_blanks x ≡ without_blanks y) where
   unread_in (base t) levels all h = base_in levels t all h
   unread_in (whole t) levels all h = whole_in x y same levels t all h
 
-pub continues-trimmed : (r : Reading) (levels : List Level) (x : List ℕ) → Continues r levels x r levels (without_blanks x)
+pub continues-trimmed : (r : Reading) (levels : List Level) (x : List ℕ)
+    → Continues r levels x r levels (without_blanks x)
 continues-trimmed r levels x = record {
   forth = unread_in x (without_blanks x) (sym (trimmed x)) r levels;
   back = unread_in (without_blanks x) x (trimmed x) r levels;

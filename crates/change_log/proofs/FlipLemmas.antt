@@ -37,14 +37,17 @@ apart_found d e s t h = (λ w. h.0 (within_found d e s t w), λ w. h.1 (within_f
 
 pub apart_if_compact : (es : List Entry) → IsCompact es → AllApart es
 apart_if_compact [] h = tt
-apart_if_compact (e ∷ es) h =
-    (apart_from e es (λ k d l. h 0 (suc k) d (omega arith) (omega (arith, l))), apart_if_compact es (λ i j d lt within. h (suc i) (suc j) d (omega (arith, lt)) (omega (arith, within))))
+apart_if_compact (e ∷ es) h = (
+  apart_from e es (λ k d l. h 0 (suc k) d (omega arith) (omega (arith, l))),
+  apart_if_compact es (λ i j d lt within. h (suc i) (suc j) d (omega (arith, lt)) (omega (arith, within))),
+)
   where
     apart_from : (e : Entry) (es : List Entry) → All (EntriesAreApart e) es → ApartFrom e es
     apart_from e [] h = tt
     apart_from e (x ∷ es) h = (h 0 x (omega arith), apart_from e es (λ k d l. h (suc k) d (omega (arith, l))))
 
-apart_back : (d : Entry) (t : Store) (es : List Entry) (s : Store) → ApartFrom d es → ApartFrom (found d t) (flipped_back es s)
+apart_back : (d : Entry) (t : Store) (es : List Entry) (s : Store) → ApartFrom d es
+    → ApartFrom (found d t) (flipped_back es s)
 apart_back d t [] s h = tt
 apart_back d t (e ∷ es) s h = (apart_found d e t (before es s) h.0, apart_back d t es s h.1)
 
@@ -52,7 +55,8 @@ all_apart_back : (es : List Entry) (s : Store) → AllApart es → AllApart (fli
 all_apart_back [] s h = tt
 all_apart_back (e ∷ es) s h = (apart_back e (before es s) es s h.0, all_apart_back es s h.1)
 
-apart_forward : (d : Entry) (t : Store) (es : List Entry) (s : Store) → ApartFrom d es → ApartFrom (found d t) (flipped_forward es s)
+apart_forward : (d : Entry) (t : Store) (es : List Entry) (s : Store) → ApartFrom d es
+    → ApartFrom (found d t) (flipped_forward es s)
 apart_forward d t [] s h = tt
 apart_forward d t (e ∷ es) s h = (apart_found d e t s h.0, apart_forward d t es (put e s) h.1)
 
@@ -64,7 +68,8 @@ pub flipped_back_is_compact : FlippedBackIsCompact
 flipped_back_is_compact log s h = compact_if_apart (flipped_back log s) (all_apart_back log s (apart_if_compact log h))
 
 pub flipped_forward_is_compact : FlippedForwardIsCompact
-flipped_forward_is_compact log s h = compact_if_apart (flipped_forward log s) (all_apart_forward log s (apart_if_compact log h))
+flipped_forward_is_compact log s h =
+    compact_if_apart (flipped_forward log s) (all_apart_forward log s (apart_if_compact log h))
 
 -- ---- module texts
 
@@ -122,27 +127,34 @@ after_keeps_texts log s h = after_kept log s (without_texts log h)
 -- ---- counting the entries that hold module texts
 
 -- the first entries and one more
-pub one_counted : (rs : List Replaced) (ps : List ℕ) (i n m : ℕ) (r : Replaced) → slice_get rs i ≡ Some r → n ≡ texts (entries (take i rs) ps)
+pub one_counted : (rs : List Replaced) (ps : List ℕ) (i n m : ℕ) (r : Replaced) → slice_get rs i ≡ Some r
+    → n ≡ texts (entries (take i rs) ps)
     → ((j : ℕ) (p : List ℕ) → m ≡ text_count (entry_of j p r.kept)) → n + m ≡ texts (entries (take (i + 1) rs) ps)
 one_counted rs ps i n m r g h k =
     let on : i + 1 ≡ suc i = omega arith in
-    let step = counted_more rs ps i r g (k r.slot) in omega (arith, h, step, ap (λ n. texts (entries (take n rs) ps)) on)
+    let step = counted_more rs ps i r g (k r.slot) in
+    omega (arith, h, step, ap (λ n. texts (entries (take n rs) ps)) on)
   where
-    counted_more : (rs : List Replaced) (ps : List ℕ) (i : ℕ) (r : Replaced) → slice_get rs i ≡ Some r → ((p : List ℕ) → m ≡ text_count (entry_of r.slot p r.kept))
+    counted_more : (rs : List Replaced) (ps : List ℕ) (i : ℕ) (r : Replaced) → slice_get rs i ≡ Some r
+        → ((p : List ℕ) → m ≡ text_count (entry_of r.slot p r.kept))
         → texts (entries (take (suc i) rs) ps) ≡ texts (entries (take i rs) ps) + m
     counted_more [] ps i r g k = absurd (cc)
     counted_more (x ∷ rs) ps zero r g k =
         let same : x ≡ r = cc in
         let first = k (take r.depth ps) in
-        let is : text_count (entry_of x.slot (take x.depth ps) x.kept) ≡ text_count (entry_of r.slot (take r.depth ps) r.kept) = ap (λ r. text_count (entry_of r.slot (take r.depth ps) r.kept)) same in
+        let is : text_count (entry_of x.slot (take x.depth ps) x.kept)
+        ≡ text_count (entry_of r.slot (take r.depth ps) r.kept) =
+        ap (λ r. text_count (entry_of r.slot (take r.depth ps) r.kept)) same in
         omega (arith, is, first)
     counted_more (x ∷ rs) ps (suc i) r g k = let rest = counted_more rs (drop x.depth ps) i r g k in omega (arith, rest)
 
 -- one more entry, which holds what was found
-pub text_pushed : (es fs : List Entry) (e : Entry) (s : Store) (n m : ℕ) → n ≡ texts es → fs ≡ es ++ found e s ∷ [] → m ≡ text_count e → n + m ≡ texts fs
+pub text_pushed : (es fs : List Entry) (e : Entry) (s : Store) (n m : ℕ) → n ≡ texts es
+    → fs ≡ es ++ found e s ∷ [] → m ≡ text_count e → n + m ≡ texts fs
 text_pushed es fs e s n m h a k = omega (arith, h, ap texts a, texts-append es (found e s ∷ []), text_found e s, k)
 
 -- one entry less
-pub text_popped : (es fs : List Entry) (e : Entry) (n m : ℕ) → n ≡ texts es → es ≡ fs ++ e ∷ [] → m ≡ text_count e → (m ≤ n) × (n - m ≡ texts fs)
+pub text_popped : (es fs : List Entry) (e : Entry) (n m : ℕ) → n ≡ texts es → es ≡ fs ++ e ∷ [] → m ≡ text_count e
+    → (m ≤ n) × (n - m ≡ texts fs)
 text_popped es fs e n m h a k =
     let all = texts-append fs (e ∷ []) in (omega (arith, h, ap texts a, all, k), omega (arith, h, ap texts a, all, k))

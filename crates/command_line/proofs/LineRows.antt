@@ -64,7 +64,9 @@ pub nothing : row (codes "stratbench" ∷ [])
 unfolding clap_on_literals
 nothing = refl
 
-pub all : row (codes "stratbench" ∷ codes "--steps=7" ∷ codes "a" ∷ codes "--lines" ∷ codes "--explain" ∷ codes "--explain-json" ∷ codes "--check" ∷ codes "--profile" ∷ codes "--stop" ∷ codes "--library" ∷ codes "-i" ∷ [])
+pub all : row
+    (codes "stratbench" ∷ codes "--steps=7" ∷ codes "a" ∷ codes "--lines" ∷ codes "--explain" ∷ codes "--explain-json"
+    ∷ codes "--check" ∷ codes "--profile" ∷ codes "--stop" ∷ codes "--library" ∷ codes "-i" ∷ [])
     ≡ record {
       library = true;
       stop = true;
@@ -85,7 +87,8 @@ pub all : row (codes "stratbench" ∷ codes "--steps=7" ∷ codes "a" ∷ codes 
 unfolding clap_on_literals
 all = refl
 
-pub files : row (codes "stratbench" ∷ codes "--tree=t=a" ∷ codes "--module" ∷ codes "m=b" ∷ codes "--tree" ∷ codes "u=" ∷ codes "--write=t=c" ∷ codes "--pretty" ∷ [])
+pub files : row (codes "stratbench" ∷ codes "--tree=t=a" ∷ codes "--module" ∷ codes "m=b" ∷ codes "--tree" ∷ codes "u="
+    ∷ codes "--write=t=c" ∷ codes "--pretty" ∷ [])
     ≡ record {
       library = false;
       stop = false;

@@ -58,8 +58,10 @@ named_app = on_top (λ s. record s { has_version = true }) (new_app (codes "stra
 
 abbrev pub line : App
 line = fold with_rule named_app
-    (flag_of (codes "library") ∷ steps_option ∷ max_steps_option ∷ max_terms_option ∷ max_tokens_option ∷ flag_of (codes "stop") ∷ flag_of (codes "lines")
-    ∷ flag_of (codes "explain") ∷ flag_of (codes "profile") ∷ interactive_flag ∷ files_option (codes "module") ∷ files_option (codes "tree") ∷ files_option (codes "write")
+    (flag_of (codes "library") ∷ steps_option ∷ max_steps_option ∷ max_terms_option ∷ max_tokens_option
+    ∷ flag_of (codes "stop") ∷ flag_of (codes "lines")
+    ∷ flag_of (codes "explain") ∷ flag_of (codes "profile") ∷ interactive_flag ∷ files_option (codes "module")
+    ∷ files_option (codes "tree") ∷ files_option (codes "write")
     ∷ flag_of (codes "pretty") ∷ flag_of (codes "explain-json") ∷ flag_of (codes "check") ∷ file_name
     ∷ [])
 

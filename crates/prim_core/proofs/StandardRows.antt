@@ -16,7 +16,8 @@ pair t u = t ∷ (u ∷ [])
 abbrev integers : ℤ → ℤ → List Tree
 integers a b = pair (integer_term a) (integer_term b)
 
-annotations_ignored : standard (codes "addi") (pair (integer_term (pos 2)) (noted (pos 3))) ≡ Some (integer_term (pos 5))
+annotations_ignored : standard (codes "addi") (pair (integer_term (pos 2)) (noted (pos 3)))
+    ≡ Some (integer_term (pos 5))
 annotations_ignored = refl
 
 sum_too_great : standard (codes "addi") (integers (pos (2 ^ 63 - 1)) (pos 1)) ≡ None
@@ -37,19 +38,23 @@ least_by_minus_one = refl
 divided_by_zero : standard (codes "divi") (integers (pos 7) (pos 0)) ≡ None
 divided_by_zero = refl
 
-greater : standard (codes "gti") (pair (noted (pos 2)) (integer_term (pos 1))) ≡ Some (tuple_term (integers (pos 2) (pos 1)))
+greater : standard (codes "gti") (pair (noted (pos 2)) (integer_term (pos 1)))
+    ≡ Some (tuple_term (integers (pos 2) (pos 1)))
 greater = refl
 
 not_greater : standard (codes "gti") (integers (pos 1) (pos 1)) ≡ None
 not_greater = refl
 
-joined : standard (codes "strcat") (pair (string_term (codes "ab")) (string_term (codes "c"))) ≡ Some (string_term (codes "abc"))
+joined : standard (codes "strcat") (pair (string_term (codes "ab")) (string_term (codes "c")))
+    ≡ Some (string_term (codes "abc"))
 joined = refl
 
-word_is_no_string : standard (codes "strlen") (application_term (record { text = codes "ab"; is_quoted = false }) [] ∷ []) ≡ None
+word_is_no_string : standard (codes "strlen")
+    (application_term (record { text = codes "ab"; is_quoted = false }) [] ∷ []) ≡ None
 word_is_no_string = refl
 
-applied_is_no_string : standard (codes "strlen") (application_term (record { text = codes "ab"; is_quoted = true }) (string_term [] ∷ []) ∷ []) ≡ None
+applied_is_no_string : standard (codes "strlen")
+    (application_term (record { text = codes "ab"; is_quoted = true }) (string_term [] ∷ []) ∷ []) ≡ None
 applied_is_no_string = refl
 
 no_bytes : standard (codes "strlen") (string_term [] ∷ []) ≡ Some (integer_term (pos 0))
@@ -77,7 +82,8 @@ no_plus = refl
 too_great : standard (codes "string-to-int") (string_term (codes "9223372036854775808") ∷ []) ≡ None
 too_great = refl
 
-least : standard (codes "string-to-int") (string_term (codes "-9223372036854775808") ∷ []) ≡ Some (integer_term (negsuc (2 ^ 63 - 1)))
+least : standard (codes "string-to-int")
+    (string_term (codes "-9223372036854775808") ∷ []) ≡ Some (integer_term (negsuc (2 ^ 63 - 1)))
 least = refl
 
 other_names : standard (codes "pow") (integers (pos 1) (pos 1)) ≡ None

@@ -5,7 +5,8 @@ use Rattle.term_core.specs.Tree.{Tree, more, none, of_list}
 use Rattle.strategy_meaning.specs.Same.{same_tree, same_trees}
 use Rattle.prim_extended.specs.Annotations.{stripped, all_stripped}
 
-append_stripped : (ms us : List Tree) (m u : Tree) → of_list ms ≡ all_stripped (of_list us) → m ≡ stripped u → of_list (ms ++ m ∷ []) ≡ all_stripped (of_list (us ++ u ∷ []))
+append_stripped : (ms us : List Tree) (m u : Tree) → of_list ms ≡ all_stripped (of_list us) → m ≡ stripped u
+    → of_list (ms ++ m ∷ []) ≡ all_stripped (of_list (us ++ u ∷ []))
 append_stripped [] [] m u e f = ap (λ x. more x none) f
 append_stripped [] (v ∷ us) m u e f = absurd (cc)
 append_stripped (n ∷ ms) [] m u e f = absurd (cc)
@@ -16,7 +17,8 @@ append_stripped (n ∷ ms) (v ∷ us) m u e f =
     λ i. more (first i) (both i)
 
 -- one term more
-pub one_more : (ts ms made : List Tree) (i : ℕ) (t m : Tree) → i < length ts → t ≡ get_or ts i t → m ≡ stripped t → made ≡ ms ++ m ∷ []
+pub one_more : (ts ms made : List Tree) (i : ℕ) (t m : Tree) → i < length ts → t ≡ get_or ts i t → m ≡ stripped t
+    → made ≡ ms ++ m ∷ []
     → of_list ms ≡ all_stripped (of_list (take i ts)) → of_list made ≡ all_stripped (of_list (take (i + 1) ts))
 one_more ts ms made i t m h is e f g =
     ap of_list f ∙ append_stripped ms (take i ts) m t g e
@@ -27,7 +29,8 @@ right_false true = refl
 right_false false = refl
 
 -- lists of two lengths
-pub never_equal : (ts us : List Tree) → (length ts ≡ length us → ⊥) → false ≡ same_trees (all_stripped (of_list ts)) (all_stripped (of_list us))
+pub never_equal : (ts us : List Tree)
+    → (length ts ≡ length us → ⊥) → false ≡ same_trees (all_stripped (of_list ts)) (all_stripped (of_list us))
 never_equal [] [] never = absurd (never refl)
 never_equal [] (u ∷ us) never = refl
 never_equal (t ∷ ts) [] never = refl

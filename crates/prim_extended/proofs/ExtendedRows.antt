@@ -21,7 +21,8 @@ integers a b = pair (integer_term a) (integer_term b)
 
 -- ---- strings as lists
 
-exploded : extended (codes "explode-string") (string_term (codes "aZ") ∷ []) ≡ Some (list_term (integers (pos 97) (pos 90)))
+exploded : extended (codes "explode-string")
+    (string_term (codes "aZ") ∷ []) ≡ Some (list_term (integers (pos 97) (pos 90)))
 exploded = refl
 
 exploded_nothing : extended (codes "explode-string") (string_term [] ∷ []) ≡ Some (list_term [])
@@ -30,13 +31,15 @@ exploded_nothing = refl
 no_string : extended (codes "explode-string") (integer_term (pos 97) ∷ []) ≡ None
 no_string = refl
 
-imploded : extended (codes "implode-string") (list_term (pair (noted (pos 97)) (integer_term (pos 90))) ∷ []) ≡ Some (string_term (codes "aZ"))
+imploded : extended (codes "implode-string")
+    (list_term (pair (noted (pos 97)) (integer_term (pos 90))) ∷ []) ≡ Some (string_term (codes "aZ"))
 imploded = refl
 
 imploded_nothing : extended (codes "implode-string") (list_term [] ∷ []) ≡ Some (string_term [])
 imploded_nothing = refl
 
-greatest_byte : extended (codes "implode-string") (list_term (integer_term (pos 255) ∷ []) ∷ []) ≡ Some (string_term (255 ∷ []))
+greatest_byte : extended (codes "implode-string")
+    (list_term (integer_term (pos 255) ∷ []) ∷ []) ≡ Some (string_term (255 ∷ []))
 greatest_byte = refl
 
 above_bytes : extended (codes "implode-string") (list_term (integers (pos 97) (pos 256)) ∷ []) ≡ None
@@ -50,10 +53,12 @@ no_list = refl
 
 -- ---- the order of strings
 
-greater_byte : extended (codes "gts") (strings (codes "b") (codes "ab")) ≡ Some (tuple_term (strings (codes "b") (codes "ab")))
+greater_byte : extended (codes "gts") (strings (codes "b") (codes "ab"))
+    ≡ Some (tuple_term (strings (codes "b") (codes "ab")))
 greater_byte = refl
 
-longer : extended (codes "gts") (strings (codes "ab") (codes "a")) ≡ Some (tuple_term (strings (codes "ab") (codes "a")))
+longer : extended (codes "gts") (strings (codes "ab") (codes "a"))
+    ≡ Some (tuple_term (strings (codes "ab") (codes "a")))
 longer = refl
 
 shorter : extended (codes "gts") (strings (codes "a") (codes "ab")) ≡ None
@@ -84,17 +89,21 @@ divided_by_zero = refl
 abbrev word : List ℕ → List Tree → Tree
 word text us = application_term (record { text = text; is_quoted = false }) us
 
-taken_apart : extended (codes "explode-term") (branch (application (record { text = codes "F"; is_quoted = false })) (more (noted (pos 1)) none) (more (integer_term (pos 3)) none) ∷ [])
+taken_apart : extended (codes "explode-term") (branch (application (record { text = codes "F"; is_quoted = false }))
+    (more (noted (pos 1)) none) (more (integer_term (pos 3)) none) ∷ [])
     ≡ Some (tuple_term (pair (string_term (codes "F")) (list_term (noted (pos 1) ∷ []))))
 taken_apart = refl
 
-string_taken_apart : extended (codes "explode-term") (string_term (codes "a") ∷ []) ≡ Some (tuple_term (pair (string_term (34 ∷ 97 ∷ 34 ∷ [])) (list_term [])))
+string_taken_apart : extended (codes "explode-term")
+    (string_term (codes "a") ∷ []) ≡ Some (tuple_term (pair (string_term (34 ∷ 97 ∷ 34 ∷ [])) (list_term [])))
 string_taken_apart = refl
 
-put_together : extended (codes "mkterm") (pair (string_term (codes "F")) (list_term (integer_term (pos 1) ∷ []))) ≡ Some (word (codes "F") (integer_term (pos 1) ∷ []))
+put_together : extended (codes "mkterm") (pair (string_term (codes "F")) (list_term (integer_term (pos 1) ∷ [])))
+    ≡ Some (word (codes "F") (integer_term (pos 1) ∷ []))
 put_together = refl
 
-string_put_together : extended (codes "mkterm") (pair (string_term (34 ∷ 97 ∷ 34 ∷ 98 ∷ 34 ∷ [])) (list_term [])) ≡ Some (string_term (97 ∷ 34 ∷ 98 ∷ []))
+string_put_together : extended (codes "mkterm") (pair (string_term (34 ∷ 97 ∷ 34 ∷ 98 ∷ 34 ∷ [])) (list_term []))
+    ≡ Some (string_term (97 ∷ 34 ∷ 98 ∷ []))
 string_put_together = refl
 
 half_quoted : extended (codes "mkterm") (pair (string_term (34 ∷ 97 ∷ [])) (list_term [])) ≡ None
@@ -106,18 +115,21 @@ one_quote = refl
 no_word : extended (codes "mkterm") (pair (string_term (codes "a b")) (list_term [])) ≡ None
 no_word = refl
 
-integer_with_children : extended (codes "mkterm") (pair (integer_term (pos 7)) (list_term (integer_term (pos 1) ∷ []))) ≡ None
+integer_with_children : extended (codes "mkterm")
+    (pair (integer_term (pos 7)) (list_term (integer_term (pos 1) ∷ []))) ≡ None
 integer_with_children = refl
 
 -- ---- the order on terms
 
-integers_first : extended (codes "compare") (pair (noted (pos 9)) (word (codes "F") [])) ≡ Some (integer_term (negsuc 0))
+integers_first : extended (codes "compare") (pair (noted (pos 9)) (word (codes "F") []))
+    ≡ Some (integer_term (negsuc 0))
 integers_first = refl
 
 the_same_term : extended (codes "compare") (pair (noted (pos 9)) (noted (pos 9))) ≡ Some (integer_term (pos 0))
 the_same_term = refl
 
-annotation_after : extended (codes "compare") (pair (noted (pos 9)) (integer_term (pos 9))) ≡ Some (integer_term (pos 1))
+annotation_after : extended (codes "compare") (pair (noted (pos 9)) (integer_term (pos 9)))
+    ≡ Some (integer_term (pos 1))
 annotation_after = refl
 
 -- ---- lists
@@ -128,27 +140,33 @@ counted = refl
 tuple_not_counted : extended (codes "list-length") (tuple_term (integers (pos 7) (pos 7)) ∷ []) ≡ None
 tuple_not_counted = refl
 
-reversed : extended (codes "list-reverse") (list_term (pair (noted (pos 1)) (integer_term (pos 2))) ∷ []) ≡ Some (list_term (pair (integer_term (pos 2)) (noted (pos 1))))
+reversed : extended (codes "list-reverse") (list_term (pair (noted (pos 1)) (integer_term (pos 2))) ∷ [])
+    ≡ Some (list_term (pair (integer_term (pos 2)) (noted (pos 1))))
 reversed = refl
 
-concatenated : extended (codes "list-concat") (list_term (list_term (integers (pos 1) (pos 2)) ∷ list_term [] ∷ list_term (noted (pos 3) ∷ []) ∷ []) ∷ [])
+concatenated : extended (codes "list-concat")
+    (list_term (list_term (integers (pos 1) (pos 2)) ∷ list_term [] ∷ list_term (noted (pos 3) ∷ []) ∷ []) ∷ [])
     ≡ Some (list_term (integer_term (pos 1) ∷ integer_term (pos 2) ∷ noted (pos 3) ∷ []))
 concatenated = refl
 
 no_list_among_lists : extended (codes "list-concat") (list_term (pair (list_term []) (tuple_term [])) ∷ []) ≡ None
 no_list_among_lists = refl
 
-placed : extended (codes "list-index") (pair (noted (pos 1)) (list_term (integer_term (pos 1) ∷ noted (pos 1) ∷ noted (pos 1) ∷ []))) ≡ Some (integer_term (pos 1))
+placed : extended (codes "list-index") (pair (noted (pos 1))
+    (list_term (integer_term (pos 1) ∷ noted (pos 1) ∷ noted (pos 1) ∷ []))) ≡ Some (integer_term (pos 1))
 placed = refl
 
 in_no_place : extended (codes "list-index") (pair (noted (pos 1)) (list_term (integers (pos 1) (pos 2)))) ≡ None
 in_no_place = refl
 
-looked_up : extended (codes "list-lookup") (pair (integer_term (pos 1)) (list_term (integer_term (pos 1) ∷ tuple_term (integers (pos 2) (pos 1)) ∷ tuple_term (pair (integer_term (pos 1)) (noted (pos 3))) ∷ tuple_term (integers (pos 1) (pos 4)) ∷ [])))
+looked_up : extended (codes "list-lookup")
+    (pair (integer_term (pos 1)) (list_term (integer_term (pos 1) ∷ tuple_term (integers (pos 2) (pos 1))
+    ∷ tuple_term (pair (integer_term (pos 1)) (noted (pos 3))) ∷ tuple_term (integers (pos 1) (pos 4)) ∷ [])))
     ≡ Some (noted (pos 3))
 looked_up = refl
 
-no_such_key : extended (codes "list-lookup") (pair (integer_term (pos 1)) (list_term (list_term (integers (pos 1) (pos 2)) ∷ tuple_term (integer_term (pos 1) ∷ integers (pos 2) (pos 3)) ∷ []))) ≡ None
+no_such_key : extended (codes "list-lookup") (pair (integer_term (pos 1)) (list_term
+    (list_term (integers (pos 1) (pos 2)) ∷ tuple_term (integer_term (pos 1) ∷ integers (pos 2) (pos 3)) ∷ []))) ≡ None
 no_such_key = refl
 
 -- ---- the names of the standard primitives, on all terms
@@ -174,8 +192,10 @@ strcat_agrees terms = refl
 strlen_agrees : (terms : List Tree) → extended (codes "strlen") terms ≡ standard (codes "strlen") terms
 strlen_agrees terms = refl
 
-int_to_string_agrees : (terms : List Tree) → extended (codes "int-to-string") terms ≡ standard (codes "int-to-string") terms
+int_to_string_agrees : (terms : List Tree)
+    → extended (codes "int-to-string") terms ≡ standard (codes "int-to-string") terms
 int_to_string_agrees terms = refl
 
-string_to_int_agrees : (terms : List Tree) → extended (codes "string-to-int") terms ≡ standard (codes "string-to-int") terms
+string_to_int_agrees : (terms : List Tree)
+    → extended (codes "string-to-int") terms ≡ standard (codes "string-to-int") terms
 string_to_int_agrees terms = refl

@@ -10,9 +10,12 @@ unquoted : (text : List ℕ) (b : Bool) (n m : ℕ) → None ≡ (if b then Some
 unquoted text true n m e = absurd (cc)
 unquoted text false n m e = refl
 
-pub of_children : (beginning : List ℕ) (n : ℕ) (t : Tree) → None ≡ string_value t → greatest_of_all beginning n (of_list (children t)) ≡ greatest beginning n t
+pub of_children : (beginning : List ℕ) (n : ℕ) (t : Tree) → None ≡ string_value t
+    → greatest_of_all beginning n (of_list (children t)) ≡ greatest beginning n t
 of_children beginning n (integer z notes) e = refl
-of_children beginning n (branch (application f) none notes) e = unquoted f.text f.is_quoted n (max n (counted_after beginning f.text)) e
-of_children beginning n (branch (application f) (more t ts) notes) e = ap (λ us. greatest_of_all beginning n (more t us)) (of_list-to_list ts)
+of_children beginning n (branch (application f) none notes) e =
+    unquoted f.text f.is_quoted n (max n (counted_after beginning f.text)) e
+of_children beginning n (branch (application f) (more t ts) notes) e =
+    ap (λ us. greatest_of_all beginning n (more t us)) (of_list-to_list ts)
 of_children beginning n (branch list kids notes) e = ap (greatest_of_all beginning n) (of_list-to_list kids)
 of_children beginning n (branch tuple kids notes) e = ap (greatest_of_all beginning n) (of_list-to_list kids)

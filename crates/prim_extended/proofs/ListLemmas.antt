@@ -29,11 +29,14 @@ onto before o = option_map (λ us. before ++ us) o
 abbrev among : Tree → Option (Tree × Tree) → List Tree → Option Tree
 among t o us = option_map (λ p. p.1) (find (λ p. same_tree t p.0) (cons_option o (filter_map pair_value us)))
 
-taken : (b : Bool) (p : Tree × Tree) (o : Option (Tree × Tree)) → option_map (λ (q : Tree × Tree). q.1) (cond b (Some p) o) ≡ cond b (Some p.1) (option_map (λ q. q.1) o)
+taken : (b : Bool) (p : Tree × Tree) (o : Option (Tree × Tree)) → option_map (λ (q : Tree × Tree). q.1)
+    (cond b (Some p) o) ≡ cond b (Some p.1) (option_map (λ q. q.1) o)
 taken true p o = refl
 taken false p o = refl
 
-pub one_pair : (t u k v : Tree) (us : List Tree) (b : Bool) → Some (k, v) ≡ pair_value u → b ≡ same_tree t k → second_of t (u ∷ us) ≡ cond b (Some v) (second_of t us)
+pub one_pair : (t u k v : Tree) (us : List Tree) (b : Bool) → Some (k, v) ≡ pair_value u → b ≡ same_tree t k
+    → second_of t (u ∷ us) ≡ cond b (Some v) (second_of t us)
 one_pair t u k v us b e same =
-    ap (λ o. among t o us) (sym e) ∙ taken (same_tree t k) (k, v) (find (λ p. same_tree t p.0) (filter_map pair_value us))
+    ap (λ o. among t o us) (sym e)
+    ∙ taken (same_tree t k) (k, v) (find (λ p. same_tree t p.0) (filter_map pair_value us))
     ∙ ap (λ c. cond c (Some v) (second_of t us)) (sym same)

@@ -33,12 +33,14 @@ Calm old new = (new.read_failures ≡ old.read_failures) × (new.write_failures 
 -- itself.
 abbrev pub RunRight : ByBudget → Result Summary RunFault → Settings → History → History → Streams → Streams → Type 0
 RunRight Rule (Ok summary) settings h g a b =
-    Calm a b × Answers settings.framing settings.stop (Rule settings.steps) h g a.left b.left a.held b.held summary.accepted summary.refused
+    Calm a b × Answers settings.framing settings.stop (Rule settings.steps) h g a.left b.left a.held b.held
+    summary.accepted summary.refused
 RunRight Rule (Err Read) settings h g a b =
     (b.read_failures ≡ a.read_failures + 1) × (b.write_failures ≡ a.write_failures)
     × AnswersPart settings.framing settings.stop (Rule settings.steps) h g a.left b.left a.held b.held 0
 RunRight Rule (Err Turns) settings h g a b =
-    Calm a b × AnswersPart settings.framing settings.stop (Rule settings.steps) h g a.left b.left a.held b.held MAX_READS
+    Calm a b
+    × AnswersPart settings.framing settings.stop (Rule settings.steps) h g a.left b.left a.held b.held MAX_READS
 RunRight Rule (Err Write) settings h g a b =
     (b.write_failures ≡ a.write_failures + 1) × (b.read_failures ≡ a.read_failures)
     × AnswersFirst settings.framing settings.stop (Rule settings.steps) h g a.left b.left a.held b.held

@@ -11,18 +11,21 @@ use Rattle.script_text.specs.Answer.{ReplyInRun}
 use Rattle.script_text.specs.Run.{Replied}
 
 -- `a CR LF CR LF SPACE b CR` is one command of three lines; a last piece of CRs alone is no line
-joined_lines : commands Continued (codes "a" ++ 13 ∷ (10 ∷ (13 ∷ (10 ∷ (codes " b" ++ 13 ∷ []))))) ≡ (codes "a" ++ 10 ∷ (10 ∷ codes " b")) ∷ []
+joined_lines : commands Continued
+    (codes "a" ++ 13 ∷ (10 ∷ (13 ∷ (10 ∷ (codes " b" ++ 13 ∷ []))))) ≡ (codes "a" ++ 10 ∷ (10 ∷ codes " b")) ∷ []
 joined_lines = refl
 
 no_lines : commands Continued (10 ∷ (13 ∷ (13 ∷ []))) ≡ []
 no_lines = refl
 
 -- CRs elsewhere stay
-inner_return : commands Continued (13 ∷ (codes "a" ++ 13 ∷ (codes "b" ++ 10 ∷ []))) ≡ (13 ∷ (codes "a" ++ 13 ∷ codes "b")) ∷ []
+inner_return : commands Continued
+    (13 ∷ (codes "a" ++ 13 ∷ (codes "b" ++ 10 ∷ []))) ≡ (13 ∷ (codes "a" ++ 13 ∷ codes "b")) ∷ []
 inner_return = refl
 
 -- a comment is no line, wherever it is; continuation lines before the first command are dropped
-comment_between : commands Continued (codes " x" ++ 10 ∷ (codes "a" ++ 10 ∷ (codes "#b" ++ 10 ∷ codes " c"))) ≡ (codes "a" ++ 10 ∷ codes " c") ∷ []
+comment_between : commands Continued (codes " x" ++ 10 ∷ (codes "a" ++ 10 ∷ (codes "#b" ++ 10 ∷ codes " c")))
+    ≡ (codes "a" ++ 10 ∷ codes " c") ∷ []
 comment_between = refl
 
 -- the last command isn't complete
@@ -31,7 +34,9 @@ last_is_open = refl
 
 -- If each line is a command, blanks at its start and the CRs at its end go, and a line of these
 -- alone, or a comment, is none.
-own_lines : commands Lines (codes "a" ++ 13 ∷ (10 ∷ (codes " b" ++ 10 ∷ (9 ∷ (13 ∷ (10 ∷ (codes "  #c" ++ 10 ∷ codes "#d"))))))) ≡ codes "a" ∷ (codes "b" ∷ [])
+own_lines : commands Lines
+    (codes "a" ++ 13 ∷ (10 ∷ (codes " b" ++ 10 ∷ (9 ∷ (13 ∷ (10 ∷ (codes "  #c" ++ 10 ∷ codes "#d")))))))
+    ≡ codes "a" ∷ (codes "b" ∷ [])
 own_lines = refl
 
 -- a line is complete at its line feed
@@ -69,7 +74,8 @@ reads_diff = refl
 reads_diff_of : command_of budgets (codes "diff t") ≡ Ok (diff (Some (codes "t")))
 reads_diff_of = refl
 
-reads_apply : command_of budgets (codes "apply t at /1 within 07 do id; f") ≡ Ok (apply (codes "t") (1 ∷ []) 7 (codes "id; f"))
+reads_apply : command_of budgets (codes "apply t at /1 within 07 do id; f")
+    ≡ Ok (apply (codes "t") (1 ∷ []) 7 (codes "id; f"))
 reads_apply = refl
 
 -- names aren't keywords, and the budget is that of a command that names none
@@ -86,7 +92,8 @@ budget_in_range : command_of budgets (codes "apply 9 within 0 do id") ≡ Err Li
 budget_in_range = refl
 
 -- up to the greatest budget
-greatest_budget : command_of (record { most = 7; usual = 100 }) (codes "apply t within 7 do id") ≡ Ok (apply (codes "t") [] 7 (codes "id"))
+greatest_budget : command_of (record { most = 7; usual = 100 }) (codes "apply t within 7 do id")
+    ≡ Ok (apply (codes "t") [] 7 (codes "id"))
 greatest_budget = refl
 
 budget_over_it : command_of (record { most = 7; usual = 100 }) (codes "apply t within 8 do id") ≡ Err Line
@@ -119,9 +126,13 @@ commit_may_not = refl
 -- ---- runs
 
 -- nothing after the refusal at which the run stops is replied to
-stops_at_a_refusal : Replied true (ReplyInRun (λ name terms. None) 1) (handed Continued (codes "undo 0" ++ 10 ∷ codes "trees")) (false ∷ []) (empty_history []) (Err Line ∷ []) (empty_history [])
+stops_at_a_refusal : Replied true (ReplyInRun (λ name terms. None) 1)
+    (handed Continued (codes "undo 0" ++ 10 ∷ codes "trees")) (false ∷ []) (empty_history [])
+    (Err Line ∷ []) (empty_history [])
 stops_at_a_refusal = (refl, (refl, refl, refl))
 
 -- otherwise the next command is replied to, at the same history; or memory couldn't grow in it
-goes_on_without_memory : Replied false (ReplyInRun (λ name terms. None) 1) (handed Continued (codes "undo 0" ++ 10 ∷ codes "trees")) (false ∷ (true ∷ [])) (empty_history []) (Err Line ∷ (Err Memory ∷ [])) (empty_history [])
+goes_on_without_memory : Replied false (ReplyInRun (λ name terms. None) 1)
+    (handed Continued (codes "undo 0" ++ 10 ∷ codes "trees")) (false ∷ (true ∷ [])) (empty_history [])
+    (Err Line ∷ (Err Memory ∷ [])) (empty_history [])
 goes_on_without_memory = (refl, ((refl, refl), refl))

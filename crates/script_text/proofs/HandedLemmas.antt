@@ -17,7 +17,8 @@ with_more-handed_as xs (y ∷ ys) = grind (arith, nat_tests, length-append)
 
 pub with_more-append : (xs ys : List ℕ) (c : Handed) → with_more ys (with_more xs c) ≡ with_more (xs ++ ys) c
 with_more-append [] ys c = refl
-with_more-append (x ∷ xs) ys (text bytes) = with_more-handed_as (bytes ++ x ∷ xs) ys ∙ ap handed_as (append_assoc bytes (x ∷ xs) ys)
+with_more-append (x ∷ xs) ys (text bytes) = with_more-handed_as (bytes ++ x ∷ xs) ys
+    ∙ ap handed_as (append_assoc bytes (x ∷ xs) ys)
 with_more-append (x ∷ xs) [] long = refl
 with_more-append (x ∷ xs) (y ∷ ys) long = refl
 
@@ -29,22 +30,27 @@ length-after_returns (suc n) b = ap suc (length-after_returns n b)
 
 -- one carriage return is appended, followed by the others
 pub more_return : (n left b : ℕ) (c : Option Handed) → suc n ≡ left →
-    option_map (with_more (after_returns n b)) (option_map (with_more (13 ∷ [])) c) ≡ option_map (with_more (after_returns left b)) c
+    option_map (with_more (after_returns n b)) (option_map (with_more (13 ∷ [])) c)
+    ≡ option_map (with_more (after_returns left b)) c
 more_return n left b None e = refl
 more_return n left b (Some c) e =
-    ap Some (with_more-append (13 ∷ []) (after_returns n b) c) ∙ ap (λ (k : ℕ). Some (with_more (after_returns k b) c)) e
+    ap Some (with_more-append (13 ∷ []) (after_returns n b) c)
+    ∙ ap (λ (k : ℕ). Some (with_more (after_returns k b) c)) e
 
 -- with too many of them every command is too long
 too_many_returns : (n b : ℕ) (c : Handed) → MAX_COMMAND < n → with_more (after_returns n b) c ≡ long
 too_many_returns zero b c h = absurd (omega (arith, h))
-too_many_returns (suc n) b (text bytes) h = handed_long (bytes ++ after_returns (suc n) b) (omega (arith, h, length-append bytes (after_returns (suc n) b), length-after_returns (suc n) b))
+too_many_returns (suc n) b (text bytes) h = handed_long (bytes ++ after_returns (suc n) b)
+    (omega (arith, h, length-append bytes (after_returns (suc n) b), length-after_returns (suc n) b))
 too_many_returns (suc n) b long h = refl
 
-pub too_many : (n b : ℕ) (c : Option Handed) → MAX_COMMAND < n → option_map (with_more (after_returns n b)) c ≡ option_map (λ _. long) c
+pub too_many : (n b : ℕ) (c : Option Handed)
+    → MAX_COMMAND < n → option_map (with_more (after_returns n b)) c ≡ option_map (λ _. long) c
 too_many n b c h = grind (arith, too_many_returns)
 
 -- the pending command is now too long
-pub made_long : (is_there : Bool) (c : Handed) → (if is_there then Some long else None) ≡ option_map (λ _. long) (if is_there then Some c else None)
+pub made_long : (is_there : Bool) (c : Handed)
+    → (if is_there then Some long else None) ≡ option_map (λ _. long) (if is_there then Some c else None)
 made_long is_there c = grind arith
 
 -- as many of them as the machine counts

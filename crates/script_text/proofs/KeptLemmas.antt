@@ -45,20 +45,24 @@ module _ (h : History) (o : ActResult) where
   leaves : (f : History) → Kept h f → Leaves f o → IfKept h o
   leaves f k e = subst (IfKept h) (sym e) k
 
-  passing : {X : Type 0} (test : Result X Refusal) (next : X → ActResult → Type 0) → ((x : X) → next x o → IfKept h o) → Passing test next o → IfKept h o
+  passing : {X : Type 0} (test : Result X Refusal) (next : X → ActResult → Type 0) → ((x : X) → next x o → IfKept h o)
+      → Passing test next o → IfKept h o
   passing (Ok x) next f p = f x p
   passing (Err refusal) next f p = subst (IfKept h) (sym p) tt
 
-  given : {X : Type 0} (Gives : Result X Refusal → Type 0) (next : X → ActResult → Type 0) → ((x : X) → next x o → IfKept h o) → Given Gives next o → IfKept h o
+  given : {X : Type 0} (Gives : Result X Refusal → Type 0) (next : X → ActResult → Type 0)
+      → ((x : X) → next x o → IfKept h o) → Given Gives next o → IfKept h o
   given Gives next f p = passing p.0 next f p.2
 
-  holding : (test : Bool) (refusal : Refusal) (next : ActResult → Type 0) → (next o → IfKept h o) → Holding test refusal next o → IfKept h o
+  holding : (test : Bool) (refusal : Refusal) (next : ActResult → Type 0) → (next o → IfKept h o)
+      → Holding test refusal next o → IfKept h o
   holding true refusal next f p = f p
   holding false refusal next f p = subst (IfKept h) (sym p) tt
 
 changed_kept : (c : Contents) (h : History) → Kept h (changed c h)
 changed_kept c h =
-    elim h.group as (λ o. Kept h (option_map_or (λ g. record h { now = c; group = Some (record g { changed = true }) }) o (record (stepped h.now h) { now = c }))) [
+    elim h.group as (λ o. Kept h (option_map_or (λ g. record h { now = c; group = Some (record g { changed = true }) })
+    o (record (stepped h.now h) { now = c }))) [
       | None ↦ (refl, refl)
       | Some g ↦ (refl, refl)
     ]
@@ -66,8 +70,10 @@ changed_kept c h =
 changes : (c : Contents) (h : History) (o : ActResult) → ChangesTo c h o → IfKept h o
 changes c h o e = leaves h o (changed c h) (changed_kept c h) e
 
-changes_modules : (group : Option HistoryGroup) (c : Contents) (h : History) (o : ActResult) → ChangesModules group c h o → IfKept h o
-changes_modules None c h o p = given h o (Checks h.primitives c.modules) (λ program. ChangesTo c h) (λ program. changes c h o) p
+changes_modules : (group : Option HistoryGroup) (c : Contents) (h : History) (o : ActResult)
+    → ChangesModules group c h o → IfKept h o
+changes_modules None c h o p =
+    given h o (Checks h.primitives c.modules) (λ program. ChangesTo c h) (λ program. changes c h o) p
 changes_modules (Some g) c h o p = changes c h o p
 
 -- ---- steps back and forward
@@ -75,7 +81,8 @@ changes_modules (Some g) c h o p = changes c h o p
 known : (h f g : History) → Kept h f → Some f ≡ Some g → Kept h g
 known h f g k e = let same : f ≡ g = cc in subst (Kept h) same k
 
-moved_kept : (move : History → Option History) → ((h g : History) → move h ≡ Some g → Kept h g) → (k : ℕ) (h g : History) → moved move k h ≡ Some g → Kept h g
+moved_kept : (move : History → Option History) → ((h g : History) → move h ≡ Some g → Kept h g)
+    → (k : ℕ) (h g : History) → moved move k h ≡ Some g → Kept h g
 moved_kept move one zero h g e = known h h g (refl, refl) e
 moved_kept move one (suc k) h g e =
     elim (move h) as (λ o. move h ≡ o → option_and_then (moved move k) o ≡ Some g → Kept h g) [
@@ -97,72 +104,94 @@ forward_kept h g e =
       | c ∷ cs ↦ λ p. known h (record h { past = h.now ∷ h.past; now = c; later = cs }) g (refl, refl) p
     ] e
 
-goes : (h : History) (o : ActResult) (found : Option History) (refusal : Refusal) → ((g : History) → found ≡ Some g → Kept h g) → Passing (ok_or found refusal) Leaves o → IfKept h o
+goes : (h : History) (o : ActResult) (found : Option History) (refusal : Refusal)
+    → ((g : History) → found ≡ Some g → Kept h g) → Passing (ok_or found refusal) Leaves o → IfKept h o
 goes h o None refusal k p = subst (IfKept h) (sym p) tt
 goes h o (Some g) refusal k p = leaves h o g (k g refl) p
 
 -- ---- acts
 
-puts : (name path : List ℕ) (t : Tree) (h : History) (place : Located) (o : ActResult) → PutsAt name path t h place o → IfKept h o
+puts : (name path : List ℕ) (t : Tree) (h : History) (place : Located) (o : ActResult) → PutsAt name path t h place o
+    → IfKept h o
 puts name path t h place o p =
     let c : Contents = with_tree h.now name (set_at place.tree path t) in
     holding h o (fits h.limits.max_terms (length path) t) Big (ChangesTo c h) (changes c h o) p
 
-annotates : (name path : List ℕ) (ts : List Tree) (h : History) (place : Located) (o : ActResult) → AnnotatesAt name path ts h place o → IfKept h o
+annotates : (name path : List ℕ) (ts : List Tree) (h : History) (place : Located) (o : ActResult)
+    → AnnotatesAt name path ts h place o → IfKept h o
 annotates name path ts h place o p =
     let c : Contents = with_tree h.now name (set_annotations_at place.tree path ts) in
     holding h o (list_all (fits h.limits.max_terms (length path + 1)) ts) Big (ChangesTo c h) (changes c h o) p
 
-applies : (meaning : Meaning) (name path : List ℕ) (n : ℕ) (h : History) (place : Located) (program : Program) (whole : Resolved) (o : ActResult) → AppliesAt meaning name path n h place program whole o → IfKept h o
+applies : (meaning : Meaning) (name path : List ℕ) (n : ℕ) (h : History) (place : Located) (program : Program)
+    (whole : Resolved) (o : ActResult) → AppliesAt meaning name path n h place program whole o → IfKept h o
 applies meaning name path n h place program whole o p =
-    passing h o (given_by (applied (world_in meaning program h.primitives h.limits.max_terms) path whole n place.tree)) (λ t. ChangesTo (with_tree h.now name t) h)
+    passing h o (given_by (applied (world_in meaning program h.primitives h.limits.max_terms) path whole n place.tree))
+    (λ t. ChangesTo (with_tree h.now name t) h)
     (λ t. changes (with_tree h.now name t) h o) p
 
 committed_kept : (g : HistoryGroup) (h : History) → Kept h (committed g h)
 committed_kept g h =
-    elim g.changed as (λ b. Kept h (if b then record (stepped g.begun h) { group = None } else record h { group = None })) [ true ↦ (refl, refl) | false ↦ (refl, refl) ]
+    elim g.changed as (λ b. Kept h (if b then record (stepped g.begun h) { group = None } else record h
+    { group = None })) [ true ↦ (refl, refl) | false ↦ (refl, refl) ]
 
 comes : (act : Act) (h : History) (o : ActResult) → ComesTo act h o → IfKept h o
-comes (set_tree_act name t) h o p = holding h o (fits h.limits.max_terms 0 t) Big (ChangesTo (with_tree h.now name t) h) (changes (with_tree h.now name t) h o) p
-comes (copy_tree name other) h o p = passing h o (tree_of h.now name) (λ t. ChangesTo (with_tree h.now other t) h) (λ t. changes (with_tree h.now other t) h o) p
-comes (drop_tree_act name) h o p = passing h o (tree_of h.now name) (λ t. ChangesTo (without_tree h.now name) h) (λ t. changes (without_tree h.now name) h o) p
-comes (put_act name path t) h o p = passing h o (place_of h.now name path) (PutsAt name path t h) (λ place. puts name path t h place o) p
-comes (annotate_act name path ts) h o p = passing h o (place_of h.now name path) (AnnotatesAt name path ts h) (λ place. annotates name path ts h place o) p
+comes (set_tree_act name t) h o p = holding h o (fits h.limits.max_terms 0 t) Big (ChangesTo (with_tree h.now name t) h)
+    (changes (with_tree h.now name t) h o) p
+comes (copy_tree name other) h o p = passing h o (tree_of h.now name) (λ t. ChangesTo (with_tree h.now other t) h)
+    (λ t. changes (with_tree h.now other t) h o) p
+comes (drop_tree_act name) h o p = passing h o (tree_of h.now name) (λ t. ChangesTo (without_tree h.now name) h)
+    (λ t. changes (without_tree h.now name) h o) p
+comes (put_act name path t) h o p =
+    passing h o (place_of h.now name path) (PutsAt name path t h) (λ place. puts name path t h place o) p
+comes (annotate_act name path ts) h o p =
+    passing h o (place_of h.now name path) (AnnotatesAt name path ts h) (λ place. annotates name path ts h place o) p
 comes (set_module_act name x) h o p =
-    given h o (ReadsAsModuleOf h.limits.max_tokens x) (λ m. ChangesModules h.group (with_module h.now name x) h) (λ m. changes_modules h.group (with_module h.now name x) h o) p
+    given h o (ReadsAsModuleOf h.limits.max_tokens x) (λ m. ChangesModules h.group (with_module h.now name x) h)
+    (λ m. changes_modules h.group (with_module h.now name x) h o) p
 comes (unload_act name) h o p =
-    passing h o (module_text_of h.now name) (λ x. ChangesModules h.group (without_module h.now name) h) (λ x. changes_modules h.group (without_module h.now name) h o) p
+    passing h o (module_text_of h.now name) (λ x. ChangesModules h.group (without_module h.now name) h)
+    (λ x. changes_modules h.group (without_module h.now name) h o) p
 comes (apply_act meaning name path n x) h o p =
-    let Resolves : Located → Strategy → Program → ActResult → Type 0 = λ place s program. Passing (resolved_in program h.primitives s) (AppliesAt meaning name path n h place program) in
-    let Checked : Located → Strategy → ActResult → Type 0 = λ place s. Given (Checks h.primitives h.now.modules) (Resolves place s) in
+    let Resolves : Located → Strategy → Program → ActResult → Type 0 =
+    λ place s program. Passing (resolved_in program h.primitives s) (AppliesAt meaning name path n h place program) in
+    let Checked : Located → Strategy → ActResult → Type 0 =
+    λ place s. Given (Checks h.primitives h.now.modules) (Resolves place s) in
     passing h o (place_of h.now name path) (λ place. Given (ReadsAsStrategy x) (Checked place))
     (λ place. given h o (ReadsAsStrategy x) (Checked place)
     (λ s. given h o (Checks h.primitives h.now.modules) (Resolves place s)
     (λ program. passing h o (resolved_in program h.primitives s) (AppliesAt meaning name path n h place program)
     (λ whole. applies meaning name path n h place program whole o)))) p
 comes (undo_act k) h o p =
-    holding h o (is_none h.group) Group (Passing (ok_or (undone k h) NoUndo) Leaves) (goes h o (undone k h) NoUndo (moved_kept step_back back_kept k h)) p
+    holding h o (is_none h.group) Group (Passing (ok_or (undone k h) NoUndo) Leaves)
+    (goes h o (undone k h) NoUndo (moved_kept step_back back_kept k h)) p
 comes (redo_act k) h o p =
-    holding h o (is_none h.group) Group (Passing (ok_or (redone k h) NoRedo) Leaves) (goes h o (redone k h) NoRedo (moved_kept step_forward forward_kept k h)) p
+    holding h o (is_none h.group) Group (Passing (ok_or (redone k h) NoRedo) Leaves)
+    (goes h o (redone k h) NoRedo (moved_kept step_forward forward_kept k h)) p
 comes begin_act h o p =
     let begun : History = record h { group = Some (record { begun = h.now; changed = false }) } in
     holding h o (is_none h.group) Group (Leaves begun) (leaves h o begun (refl, refl)) p
 comes commit_act h o p =
-    passing h o (ok_or h.group NoGroup) (λ g. Given (Checks h.primitives h.now.modules) (λ program. Leaves (committed g h)))
-    (λ g. given h o (Checks h.primitives h.now.modules) (λ program. Leaves (committed g h)) (λ program. leaves h o (committed g h) (committed_kept g h))) p
+    passing h o (ok_or h.group NoGroup)
+    (λ g. Given (Checks h.primitives h.now.modules) (λ program. Leaves (committed g h)))
+    (λ g. given h o (Checks h.primitives h.now.modules) (λ program. Leaves (committed g h))
+    (λ program. leaves h o (committed g h) (committed_kept g h))) p
 comes abandon_act h o p =
-    passing h o (ok_or h.group NoGroup) (λ g. Leaves (record h { now = g.begun; group = None })) (λ g. leaves h o (record h { now = g.begun; group = None }) (refl, refl)) p
+    passing h o (ok_or h.group NoGroup) (λ g. Leaves (record h { now = g.begun; group = None }))
+    (λ g. leaves h o (record h { now = g.begun; group = None }) (refl, refl)) p
 
 -- ---- replies
 
-told : (h : History) (Comes : ActResult → Type 0) (reply : Reply) → ((o : ActResult) → Comes o → IfKept h o) → Told Comes reply → Kept h (history_after h reply)
+told : (h : History) (Comes : ActResult → Type 0) (reply : Reply) → ((o : ActResult) → Comes o → IfKept h o)
+    → Told Comes reply → Kept h (history_after h reply)
 told h Comes reply k p = subst (λ r. Kept h (history_after h r)) (sym p.2) (go p.0 (k p.0 p.1))
   where
     go : (o : ActResult) → IfKept h o → Kept h (history_after h (done o))
     go (Ok g) k = k
     go (Err refusal) k = (refl, refl)
 
-shows : {X : Type 0} (text_of : X → List ℕ) (h : History) (found : Result X Refusal) (reply : Reply) → reply ≡ shown text_of h found → Kept h (history_after h reply)
+shows : {X : Type 0} (text_of : X → List ℕ) (h : History) (found : Result X Refusal) (reply : Reply)
+    → reply ≡ shown text_of h found → Kept h (history_after h reply)
 shows text_of h found reply e = subst (λ r. Kept h (history_after h r)) (sym e) (go found)
   where
     go : (found : Result _ Refusal) → Kept h (history_after h (shown text_of h found))
@@ -170,23 +199,29 @@ shows text_of h found reply e = subst (λ r. Kept h (history_after h r)) (sym e)
     go (Err refusal) = (refl, refl)
 
 module _ (meaning : Meaning) where
-  replies_kept : (form : Form) (h : History) (reply : Reply) → Replies meaning form h reply → Kept h (history_after h reply)
+  replies_kept : (form : Form) (h : History) (reply : Reply) → Replies meaning form h reply
+      → Kept h (history_after h reply)
   replies_kept (tree name x) h reply =
       told h (Given (ReadAs Spells x) (λ t. ComesTo (set_tree_act name t) h)) reply
       (λ o. given h o (ReadAs Spells x) (λ t. ComesTo (set_tree_act name t) h) (λ t. comes (set_tree_act name t) h o))
   replies_kept (put name path x) h reply =
       let next : Located → Tree → ActResult → Type 0 = λ place t. PutsAt name path t h place in
       told h (Passing (place_of h.now name path) (λ place. Given (ReadAs Spells x) (next place))) reply
-      (λ o. passing h o (place_of h.now name path) (λ place. Given (ReadAs Spells x) (next place)) (λ place. given h o (ReadAs Spells x) (next place) (λ t. puts name path t h place o)))
+      (λ o. passing h o (place_of h.now name path) (λ place. Given (ReadAs Spells x) (next place))
+      (λ place. given h o (ReadAs Spells x) (next place) (λ t. puts name path t h place o)))
   replies_kept (annotate name path x) h reply =
       let next : Located → List Tree → ActResult → Type 0 = λ place ts. AnnotatesAt name path ts h place in
       told h (Passing (place_of h.now name path) (λ place. Given (ReadAs SpellsAnnotations x) (next place))) reply
-      (λ o. passing h o (place_of h.now name path) (λ place. Given (ReadAs SpellsAnnotations x) (next place)) (λ place. given h o (ReadAs SpellsAnnotations x) (next place) (λ ts. annotates name path ts h place o)))
-  replies_kept (copy name other) h reply = told h (ComesTo (copy_tree name other) h) reply (comes (copy_tree name other) h)
+      (λ o. passing h o (place_of h.now name path) (λ place. Given (ReadAs SpellsAnnotations x) (next place))
+      (λ place. given h o (ReadAs SpellsAnnotations x) (next place) (λ ts. annotates name path ts h place o)))
+  replies_kept (copy name other) h reply =
+      told h (ComesTo (copy_tree name other) h) reply (comes (copy_tree name other) h)
   replies_kept (drop_tree name) h reply = told h (ComesTo (drop_tree_act name) h) reply (comes (drop_tree_act name) h)
-  replies_kept (set_module name x) h reply = told h (ComesTo (set_module_act name x) h) reply (comes (set_module_act name x) h)
+  replies_kept (set_module name x) h reply =
+      told h (ComesTo (set_module_act name x) h) reply (comes (set_module_act name x) h)
   replies_kept (unload name) h reply = told h (ComesTo (unload_act name) h) reply (comes (unload_act name) h)
-  replies_kept (apply name path n x) h reply = told h (ComesTo (apply_act meaning name path n x) h) reply (comes (apply_act meaning name path n x) h)
+  replies_kept (apply name path n x) h reply =
+      told h (ComesTo (apply_act meaning name path n x) h) reply (comes (apply_act meaning name path n x) h)
   replies_kept (preview name path n x) h reply = λ p. shows _ h p.0 reply p.2
   replies_kept (undo n) h reply = told h (ComesTo (undo_act n) h) reply (comes (undo_act n) h)
   replies_kept (redo n) h reply = told h (ComesTo (redo_act n) h) reply (comes (redo_act n) h)
@@ -200,24 +235,29 @@ module _ (meaning : Meaning) where
   replies_kept form h reply = λ e. subst (λ r. Kept h (history_after h r)) (sym e) (refl, refl)
 
   module _ (budget : ℕ) where
-    read_kept : (read : Result Form Refusal) (h : History) (reply : Reply) → MatchResult read (λ form. Replies meaning form h reply) (λ refusal. reply ≡ Err refusal) → Kept h (history_after h reply)
+    read_kept : (read : Result Form Refusal) (h : History) (reply : Reply) → MatchResult read
+        (λ form. Replies meaning form h reply) (λ refusal. reply ≡ Err refusal) → Kept h (history_after h reply)
     read_kept (Ok form) h reply p = replies_kept form h reply p
     read_kept (Err refusal) h reply p = subst (λ r. Kept h (history_after h r)) (sym p) (refl, refl)
 
-    reply_kept : (command : Handed) (flag : Bool) (h : History) (reply : Reply) → ReplyInRun meaning budget command flag h reply → Kept h (history_after h reply)
+    reply_kept : (command : Handed) (flag : Bool) (h : History) (reply : Reply)
+        → ReplyInRun meaning budget command flag h reply → Kept h (history_after h reply)
     reply_kept (text command) false h reply p = read_kept (command_of (budgets_in h budget) command) h reply p
     reply_kept long false h reply p = subst (λ r. Kept h (history_after h r)) (sym p) (refl, refl)
     reply_kept command true h reply p = subst (λ r. Kept h (history_after h r)) (sym p.1) (refl, refl)
 
-    run_kept : (stop : Bool) (commands : List Handed) (flags : List Bool) (h g : History) (rs : List Reply) → Replied stop (ReplyInRun meaning budget) commands flags h rs g → Kept h g
+    run_kept : (stop : Bool) (commands : List Handed) (flags : List Bool) (h g : History) (rs : List Reply)
+        → Replied stop (ReplyInRun meaning budget) commands flags h rs g → Kept h g
     run_kept stop [] [] h g [] p = subst (Kept h) (sym p) (refl, refl)
     run_kept stop (c ∷ cs) (f ∷ fs) h g (r ∷ rs) p =
         kept_on h (history_after h r) g (reply_kept c f h r p.0)
-        (elim (stop && is_err r) as (λ b. MatchBool b ((fs ≡ []) × (rs ≡ []) × (g ≡ history_after h r)) (Replied stop (ReplyInRun meaning budget) cs fs (history_after h r) rs g) → Kept (history_after h r) g) [
+        (elim (stop && is_err r) as (λ b. MatchBool b ((fs ≡ []) × (rs ≡ []) × (g ≡ history_after h r))
+        (Replied stop (ReplyInRun meaning budget) cs fs (history_after h r) rs g) → Kept (history_after h r) g) [
           | true ↦ λ q. subst (Kept (history_after h r)) (sym q.2) (refl, refl)
           | false ↦ λ q. run_kept stop cs fs (history_after h r) g rs q
         ] p.1)
     run_kept stop cs fs h g rs p = absurd p
 
 pub limits_are_kept : LimitsAreKept
-limits_are_kept meaning stop budget commands flags h g replies p = run_kept meaning budget stop commands flags h g replies p
+limits_are_kept meaning stop budget commands flags h g replies p =
+    run_kept meaning budget stop commands flags h g replies p

@@ -29,27 +29,36 @@ abbrev line_command : Bool → Option Handed → List ℕ → Option Handed
 line_command begins c line = if begins then Some (handed_as line) else option_map (with_more (10 ∷ line)) c
 
 finished-line : (c : Option Handed) (line : List ℕ) (ls : List (List ℕ)) →
-    finished c (cut (line ∷ ls)) ≡ line_out (begins_command line) c ++ finished (line_command (begins_command line) c line) (cut ls)
+    finished c (cut (line ∷ ls)) ≡ line_out (begins_command line) c
+    ++ finished (line_command (begins_command line) c line) (cut ls)
 finished-line c line ls = at (begins_command line) c
   where
     at : (b : Bool) (c : Option Handed) →
-        finished c (if b then record { going_on = []; commands = (line ++ (cut ls).going_on) ∷ (cut ls).commands } else record { going_on = 10 ∷ line ++ (cut ls).going_on; commands = (cut ls).commands })
+        finished c (if b then record { going_on = []; commands = (line ++ (cut ls).going_on) ∷ (cut ls).commands } else
+        record { going_on = 10 ∷ line ++ (cut ls).going_on; commands = (cut ls).commands })
         ≡ line_out b c ++ finished (line_command b c line) (cut ls)
-    at true None = ap (λ (h : Handed). h ∷ map handed_as (cut ls).commands) (sym (with_more-handed_as line (cut ls).going_on))
-    at true (Some d) = ap (λ (h : Handed). d ∷ (h ∷ map handed_as (cut ls).commands)) (sym (with_more-handed_as line (cut ls).going_on))
+    at true None =
+        ap (λ (h : Handed). h ∷ map handed_as (cut ls).commands) (sym (with_more-handed_as line (cut ls).going_on))
+    at true (Some d) = ap (λ (h : Handed). d ∷ (h ∷ map handed_as (cut ls).commands))
+        (sym (with_more-handed_as line (cut ls).going_on))
     at false None = refl
-    at false (Some d) = ap (λ (h : Handed). h ∷ map handed_as (cut ls).commands) (sym (with_more-append (10 ∷ line) (cut ls).going_on d))
+    at false (Some d) = ap (λ (h : Handed). h ∷ map handed_as (cut ls).commands)
+        (sym (with_more-append (10 ∷ line) (cut ls).going_on d))
 
 -- ---- a line of which this much has arrived
 
 abbrev gone : Option Handed → List ℕ → ℕ → Unfinished
 gone None core n = record { framing = Continued; command = None; place = Skipped; returns = 0 }
-gone (Some c) core n = record { framing = Continued; command = Some (with_more (10 ∷ core) c); place = Kept; returns = capped n }
+gone (Some c) core n =
+    record { framing = Continued; command = Some (with_more (10 ∷ core) c); place = Kept; returns = capped n }
 
 -- depending on whether it is a comment, and whether it begins a command
 abbrev in_some : Bool → Bool → Option Handed → List ℕ → ℕ → Taken
 in_some true begins c core n = going (record { framing = Continued; command = c; place = Comment; returns = 0 })
-in_some false true c core n = record { out = c; left = record { framing = Continued; command = Some (handed_as core); place = Kept; returns = capped n } }
+in_some false true c core n = record {
+  out = c;
+  left = record { framing = Continued; command = Some (handed_as core); place = Kept; returns = capped n };
+}
 in_some false false c core n = going (gone c core n)
 
 abbrev pub in_core : Option Handed → List ℕ → ℕ → Taken
@@ -61,46 +70,71 @@ handed_from t x = option_to_list t.out ++ rest_of t.left x
 
 -- ---- its next byte
 
-at_return : (c : Option Handed) (core x : List ℕ) (n : ℕ) → handed_from (in_core c core n) (13 ∷ x) ≡ handed_from (in_core c core (suc n)) x
+at_return : (c : Option Handed) (core x : List ℕ) (n : ℕ)
+    → handed_from (in_core c core n) (13 ∷ x) ≡ handed_from (in_core c core (suc n)) x
 at_return c core x n = grind (arith, nat_tests, capped-suc)
 
 -- a line feed, given what comes of the lines after it
-at_line_feed : (c : Option Handed) (core x : List ℕ) (n : ℕ) (ls : List (List ℕ)) → ((d : Option Handed) → rest_of (in_place Continued d Start) x ≡ finished d (cut ls)) →
+at_line_feed : (c : Option Handed) (core x : List ℕ) (n : ℕ) (ls : List (List ℕ))
+    → ((d : Option Handed) → rest_of (in_place Continued d Start) x ≡ finished d (cut ls)) →
     handed_from (in_core c core n) (10 ∷ x) ≡ finished c (cut (with_line core ls))
 at_line_feed c [] x n ls ih = ih _ ∙ sym (finished-line c [] ls)
-at_line_feed c (k ∷ core) x n ls ih = grind (arith, nat_tests, finished-line c (k ∷ core) ls, ih c, ih (Some (handed_as (k ∷ core))), ih (option_map (with_more (10 ∷ (k ∷ core))) c))
+at_line_feed c (k ∷ core) x n ls ih = grind (
+  arith,
+  nat_tests,
+  finished-line c (k ∷ core) ls,
+  ih c,
+  ih (Some (handed_as (k ∷ core))),
+  ih (option_map (with_more (10 ∷ (k ∷ core))) c),
+)
 
 -- a first byte of a line
-first_byte : (c : Option Handed) (n b : ℕ) → (b == 13) ≡ false → (b == 10) ≡ false → at_start (record { framing = Continued; command = c; place = Start; returns = capped n }) b ≡ in_core c (returns n ++ b ∷ []) 0
+first_byte : (c : Option Handed) (n b : ℕ) → (b == 13) ≡ false → (b == 10) ≡ false
+    → at_start (record { framing = Continued; command = c; place = Start; returns = capped n }) b
+    ≡ in_core c (returns n ++ b ∷ []) 0
 first_byte c zero b e f = grind (arith, nat_tests)
 first_byte c (suc n) b e f = grind (arith, nat_tests, capped-begun)
 
 at_byte : (c : Option Handed) (core x : List ℕ) (n b : ℕ) → (b == 13) ≡ false → (b == 10) ≡ false →
     handed_from (in_core c core n) (b ∷ x) ≡ handed_from (in_core c (core ++ (returns n ++ b ∷ [])) 0) x
 at_byte c [] x n b e f = ap (λ (t : Taken). handed_from t x) (first_byte c n b e f)
-at_byte None (k ∷ core) x n b e f = grind (arith, capped-more n b (handed_as (k ∷ core)), with_more-handed_as (k ∷ core) (after_returns n b))
+at_byte None (k ∷ core) x n b e f =
+    grind (arith, capped-more n b (handed_as (k ∷ core)), with_more-handed_as (k ∷ core) (after_returns n b))
 at_byte (Some d) (k ∷ core) x n b e f =
-    grind (arith, capped-more n b (handed_as (k ∷ core)), with_more-handed_as (k ∷ core) (after_returns n b), capped-more n b (with_more (10 ∷ (k ∷ core)) d), with_more-append (10 ∷ (k ∷ core)) (after_returns n b) d)
+    grind (
+      arith,
+      capped-more n b (handed_as (k ∷ core)),
+      with_more-handed_as (k ∷ core) (after_returns n b),
+      capped-more n b (with_more (10 ∷ (k ∷ core)) d),
+      with_more-append (10 ∷ (k ∷ core)) (after_returns n b) d,
+    )
 
-at_end : (c : Option Handed) (core : List ℕ) (n : ℕ) → handed_from (in_core c core n) [] ≡ finished c (cut (last_line core))
+at_end : (c : Option Handed) (core : List ℕ) (n : ℕ)
+    → handed_from (in_core c core n) [] ≡ finished c (cut (last_line core))
 at_end c [] n = grind arith
 at_end c (k ∷ core) n =
-    let as_if_ended : handed_from (in_core c (k ∷ core) n) [] ≡ handed_from (in_core c (k ∷ core) n) (10 ∷ []) = grind (arith, nat_tests) in
+    let as_if_ended : handed_from (in_core c (k ∷ core) n) [] ≡ handed_from (in_core c (k ∷ core) n) (10 ∷ []) =
+    grind (arith, nat_tests) in
     as_if_ended ∙ at_line_feed c (k ∷ core) [] n [] (λ d. grind arith)
 
 -- ---- the whole text
 
 -- The text after the part of a line that has arrived.
 abbrev Follows : List ℕ → Type 0
-Follows x = (c : Option Handed) (core : List ℕ) (n : ℕ) → IsCore core → handed_from (in_core c core n) x ≡ finished c (cut (lines (core ++ (returns n ++ x))))
+Follows x = (c : Option Handed) (core : List ℕ) (n : ℕ) → IsCore core
+    → handed_from (in_core c core n) x ≡ finished c (cut (lines (core ++ (returns n ++ x))))
 
 follows : (x : List ℕ) → Follows x
-follows [] = λ c core n h. at_end c core n ∙ ap (λ (ls : List (List ℕ)). finished c (cut ls)) (sym (ap (λ (xs : List ℕ). lines (core ++ xs)) (append-nil (returns n)) ∙ lines-end core n h))
+follows [] = λ c core n h. at_end c core n ∙ ap (λ (ls : List (List ℕ)). finished c (cut ls))
+    (sym (ap (λ (xs : List ℕ). lines (core ++ xs)) (append-nil (returns n)) ∙ lines-end core n h))
 follows (b ∷ x) = this_or (λ k. Follows (k ∷ x)) 13 b
-    (λ c core n h. at_return c core x n ∙ follows x c core (suc n) h ∙ ap (λ (xs : List ℕ). finished c (cut (lines xs))) (sym (one_more_return core x n)))
+    (λ c core n h. at_return c core x n ∙ follows x c core (suc n) h
+    ∙ ap (λ (xs : List ℕ). finished c (cut (lines xs))) (sym (one_more_return core x n)))
     (λ e. this_or (λ k. Follows (k ∷ x)) 10 b
-    (λ c core n h. at_line_feed c core x n (lines x) (λ d. follows x d [] 0 no_core) ∙ ap (λ (ls : List (List ℕ)). finished c (cut ls)) (sym (lines-line_feed core x n h)))
-    (λ f c core n h. at_byte c core x n b e f ∙ follows x c (core ++ (returns n ++ b ∷ [])) 0 (longer_core core n b h e f)
+    (λ c core n h. at_line_feed c core x n (lines x) (λ d. follows x d [] 0 no_core)
+    ∙ ap (λ (ls : List (List ℕ)). finished c (cut ls)) (sym (lines-line_feed core x n h)))
+    (λ f c core n h. at_byte c core x n b e f
+    ∙ follows x c (core ++ (returns n ++ b ∷ [])) 0 (longer_core core n b h e f)
     ∙ ap (λ (xs : List ℕ). finished c (cut (lines xs))) (longer_append core n b x)))
 
 handed_by_bytes : (x : List ℕ) → handed Continued x ≡ rest_of (nothing Continued) x
@@ -123,7 +157,8 @@ but_last-same [] e = refl
 but_last-same (x ∷ []) e = absurd (cc)
 but_last-same (x ∷ (y ∷ xs)) e = let rest : y ∷ xs ≡ [] = but_last-same (y ∷ xs) (cc) in absurd (cc)
 
-all_but_last : {X : Type 0} (xs out : List X) (last : Option X) → xs ≡ out ++ option_to_list last → (last ≡ None → out ≡ []) → out ≡ but_last xs
+all_but_last : {X : Type 0} (xs out : List X) (last : Option X) → xs ≡ out ++ option_to_list last
+    → (last ≡ None → out ≡ []) → out ≡ but_last xs
 all_but_last xs out None e none = none refl ∙ sym (ap but_last (e ∙ append-nil out ∙ none refl))
 all_but_last xs out (Some last) e none = sym (ap but_last e ∙ but_last-snoc out last)
 
@@ -134,7 +169,8 @@ StandsAfter-none Continued = record { framed = refl; complete = refl; rest = λ 
 StandsAfter-none Lines = record { framed = refl; complete = refl; rest = λ more. handed_by_lines more }
 
 -- at the end
-pub StandsAfter-end : (framing : Framing) (x : List ℕ) (out : List Handed) (s : Unfinished) → StandsAfter framing x out s → handed framing x ≡ out ++ option_to_list s.command
+pub StandsAfter-end : (framing : Framing) (x : List ℕ) (out : List Handed) (s : Unfinished)
+    → StandsAfter framing x out s → handed framing x ≡ out ++ option_to_list s.command
 StandsAfter-end framing x out s h = sym (ap (handed framing) (append-nil x)) ∙ h.rest []
 
 -- ---- what a byte does
@@ -143,7 +179,8 @@ taken-framing : (s : Unfinished) (b : ℕ) → (taken s b).left.framing ≡ s.fr
 taken-framing s b = grind (arith, nat_tests)
 
 -- if it leaves no pending command, there was none before it
-none_before : (s : Unfinished) (b : ℕ) → s.framing ≡ Continued → (taken s b).left.command ≡ None → (s.command ≡ None) × ((taken s b).out ≡ None)
+none_before : (s : Unfinished) (b : ℕ)
+    → s.framing ≡ Continued → (taken s b).left.command ≡ None → (s.command ≡ None) × ((taken s b).out ≡ None)
 none_before s b f e = grind (arith, nat_tests)
 
 -- a line feed leaves nothing pending where lines are commands, and no other byte completes one
@@ -154,28 +191,38 @@ own_byte : (s : Unfinished) (b : ℕ) → s.framing ≡ Lines → (b == 10) ≡ 
 own_byte s b f e = grind (arith, nat_tests)
 
 -- without a pending command none was completed
-none_out : (x : List ℕ) (out : List Handed) (s : Unfinished) → StandsAfter Continued x out s → s.command ≡ None → out ≡ []
+none_out : (x : List ℕ) (out : List Handed) (s : Unfinished) → StandsAfter Continued x out s
+    → s.command ≡ None → out ≡ []
 none_out x out s h e =
-    but_last-same out (h.complete ∙ but_last-map handed_as (commands Continued x) ∙ ap but_last (StandsAfter-end Continued x out s h ∙ ap (λ (c : Option Handed). out ++ option_to_list c) e ∙ append-nil out))
+    but_last-same out (h.complete ∙ but_last-map handed_as (commands Continued x) ∙ ap but_last
+    (StandsAfter-end Continued x out s h ∙ ap (λ (c : Option Handed). out ++ option_to_list c) e ∙ append-nil out))
 
 -- a byte after the text
-module _ (framing : Framing) (x : List ℕ) (out : List Handed) (s : Unfinished) (b : ℕ) (h : StandsAfter framing x out s) where
-  rest_more : (more : List ℕ) → handed framing ((x ++ b ∷ []) ++ more) ≡ (out ++ option_to_list (taken s b).out) ++ rest_of (taken s b).left more
-  rest_more more = ap (handed framing) (append_assoc x (b ∷ []) more) ∙ h.rest (b ∷ more) ∙ sym (append_assoc out (option_to_list (taken s b).out) (rest_of (taken s b).left more))
+module _ (framing : Framing) (x : List ℕ) (out : List Handed) (s : Unfinished) (b : ℕ)
+    (h : StandsAfter framing x out s) where
+  rest_more : (more : List ℕ) → handed framing ((x ++ b ∷ []) ++ more) ≡ (out ++ option_to_list (taken s b).out)
+      ++ rest_of (taken s b).left more
+  rest_more more = ap (handed framing) (append_assoc x (b ∷ []) more)
+      ∙ h.rest (b ∷ more) ∙ sym (append_assoc out (option_to_list (taken s b).out) (rest_of (taken s b).left more))
 
-  whole : handed framing (x ++ b ∷ []) ≡ (out ++ option_to_list (taken s b).out) ++ option_to_list (taken s b).left.command
+  whole : handed framing (x ++ b ∷ []) ≡ (out ++ option_to_list (taken s b).out)
+      ++ option_to_list (taken s b).left.command
   whole = sym (ap (handed framing) (append-nil (x ++ b ∷ []))) ∙ rest_more []
 
-complete_more : (framing : Framing) (x : List ℕ) (out : List Handed) (s : Unfinished) (b : ℕ) → StandsAfter framing x out s → out ++ option_to_list (taken s b).out ≡ completed framing (x ++ b ∷ [])
+complete_more : (framing : Framing) (x : List ℕ) (out : List Handed) (s : Unfinished) (b : ℕ)
+    → StandsAfter framing x out s → out ++ option_to_list (taken s b).out ≡ completed framing (x ++ b ∷ [])
 complete_more Continued x out s b h =
-    all_but_last _ _ (taken s b).left.command (whole Continued x out s b h) (λ e. let before = none_before s b h.framed e in rw before.1 (append-nil out ∙ none_out x out s h before.0))
+    all_but_last _ _ (taken s b).left.command (whole Continued x out s b h)
+    (λ e. let before = none_before s b h.framed e in rw before.1 (append-nil out ∙ none_out x out s h before.0))
     ∙ sym (but_last-map handed_as (commands Continued (x ++ b ∷ [])))
 complete_more Lines x out s b h = elim (cases_Bool (b == 10)) [
-  | inl e ↦ sym (ap (handed Lines) (ended-feed x b e) ∙ whole Lines x out s b h ∙ rw (own_feed s b h.framed e) (append-nil _))
+  | inl e ↦
+      sym (ap (handed Lines) (ended-feed x b e) ∙ whole Lines x out s b h ∙ rw (own_feed s b h.framed e) (append-nil _))
   | inr e ↦ rw (own_byte s b h.framed e) (append-nil out ∙ h.complete ∙ sym (ap (handed Lines) (ended-byte x b e)))
 ]
 
-StandsAfter-more : (framing : Framing) (x : List ℕ) (out : List Handed) (s : Unfinished) (b : ℕ) → StandsAfter framing x out s →
+StandsAfter-more : (framing : Framing) (x : List ℕ) (out : List Handed) (s : Unfinished) (b : ℕ)
+    → StandsAfter framing x out s →
     StandsAfter framing (x ++ b ∷ []) (out ++ option_to_list (taken s b).out) (taken s b).left
 StandsAfter-more framing x out s b h = record {
   framed = taken-framing s b ∙ h.framed;
@@ -185,12 +232,16 @@ StandsAfter-more framing x out s b h = record {
 
 -- ---- after more bytes
 
-pub StandsAfter-run : (framing : Framing) (run x : List ℕ) (out : List Handed) (s : Unfinished) → StandsAfter framing x out s → StandsAfter framing (x ++ run) (out ++ out_of s run) (passed s run)
+pub StandsAfter-run : (framing : Framing) (run x : List ℕ) (out : List Handed) (s : Unfinished)
+    → StandsAfter framing x out s → StandsAfter framing (x ++ run) (out ++ out_of s run) (passed s run)
 StandsAfter-run framing [] x out s h = rw (append-nil, append-nil) h
 StandsAfter-run framing (b ∷ run) x out s h =
-    rw (← append_assoc x (b ∷ []) run, ← append_assoc out (option_to_list (taken s b).out) (out_of (taken s b).left run))
-    (StandsAfter-run framing run (x ++ b ∷ []) (out ++ option_to_list (taken s b).out) (taken s b).left (StandsAfter-more framing x out s b h))
+    rw
+    (← append_assoc x (b ∷ []) run, ← append_assoc out (option_to_list (taken s b).out) (out_of (taken s b).left run))
+    (StandsAfter-run framing run (x ++ b ∷ []) (out ++ option_to_list (taken s b).out) (taken s b).left
+    (StandsAfter-more framing x out s b h))
 
 -- what is complete in them
-pub StandsAfter-out : (framing : Framing) (more x : List ℕ) (out : List Handed) (s : Unfinished) → StandsAfter framing x out s → completed framing (x ++ more) ≡ out ++ out_of s more
+pub StandsAfter-out : (framing : Framing) (more x : List ℕ) (out : List Handed) (s : Unfinished)
+    → StandsAfter framing x out s → completed framing (x ++ more) ≡ out ++ out_of s more
 StandsAfter-out framing more x out s h = sym (StandsAfter-run framing more x out s h).complete

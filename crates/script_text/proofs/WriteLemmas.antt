@@ -25,19 +25,24 @@ WritesFront-none a bytes = record { kept = []; all = refl; written = Appends-non
     kept (Some xs) = refl
 
 -- n more bytes are written
-pub WritesFront-more : (a b c : Option (List ℕ)) (bytes rest : List ℕ) (n : ℕ) → WritesFront a b bytes rest → Appends b c (take n rest) → WritesFront a c bytes (take (length rest - n) (drop n rest))
+pub WritesFront-more : (a b c : Option (List ℕ)) (bytes rest : List ℕ) (n : ℕ) → WritesFront a b bytes rest
+    → Appends b c (take n rest) → WritesFront a c bytes (take (length rest - n) (drop n rest))
 WritesFront-more a b c bytes rest n w h = record {
   kept = w.kept ++ take n rest;
-  all = w.all ∙ ap (λ (r : List ℕ). w.kept ++ r) (sym (take-append-drop n rest) ∙ ap (λ (r : List ℕ). take n rest ++ r) (sym (take_rest rest n))) ∙ sym (append_assoc w.kept (take n rest) _);
+  all = w.all ∙ ap (λ (r : List ℕ). w.kept ++ r) (sym (take-append-drop n rest)
+      ∙ ap (λ (r : List ℕ). take n rest ++ r) (sym (take_rest rest n))) ∙ sym (append_assoc w.kept (take n rest) _);
   written = Appends-trans a b c w.kept (take n rest) w.written h;
 }
 
 -- nothing more is written
-pub WritesFront-kept : (a b c : Option (List ℕ)) (bytes rest : List ℕ) → WritesFront a b bytes rest → Keeps b c → WritesFront a c bytes rest
-WritesFront-kept a b c bytes rest w h = record { kept = w.kept; all = w.all; written = Appends-kept a b c w.kept w.written h }
+pub WritesFront-kept : (a b c : Option (List ℕ)) (bytes rest : List ℕ) → WritesFront a b bytes rest → Keeps b c
+    → WritesFront a c bytes rest
+WritesFront-kept a b c bytes rest w h =
+    record { kept = w.kept; all = w.all; written = Appends-kept a b c w.kept w.written h }
 
 -- all is written
-pub WritesFront-all : (a b : Option (List ℕ)) (bytes rest : List ℕ) → WritesFront a b bytes rest → rest ≡ [] → Appends a b bytes
+pub WritesFront-all : (a b : Option (List ℕ)) (bytes rest : List ℕ) → WritesFront a b bytes rest
+    → rest ≡ [] → Appends a b bytes
 WritesFront-all a b bytes rest w e = let P : List ℕ → Type 0 = λ xs. Appends a b xs in
     subst P (sym (w.all ∙ ap (λ (r : List ℕ). w.kept ++ r) e ∙ append-nil w.kept)) w.written
 
@@ -55,4 +60,14 @@ Appends-after (Some xs) None c bs h k = absurd h
 Appends-after (Some xs) (Some ys) None bs h k = absurd k
 Appends-after (Some xs) (Some ys) (Some zs) bs h k = k ∙ ap (λ (l : List ℕ). l ++ bs) h
 
-pub ruleset known_bytes = (Keeps-from_none, Appends-none, WritesFront-none, WritesFront-more, WritesFront-kept, Keeps-refl, Keeps-trans, Consumes-after, Appends-after)
+pub ruleset known_bytes = (
+  Keeps-from_none,
+  Appends-none,
+  WritesFront-none,
+  WritesFront-more,
+  WritesFront-kept,
+  Keeps-refl,
+  Keeps-trans,
+  Consumes-after,
+  Appends-after,
+)

@@ -81,8 +81,8 @@ pub record IsCommandText (framing : Framing) (text : List ℕ) : Type 0 where
       (slice_split is_line_feed text)
   pub goes_on : GoOn framing (drop 1 (slice_split is_line_feed text))
 
--- Contents that a script can restore in a session with these primitives, whose modules may have so many tokens: their names are labels and
--- their trees terms, they are sound, a command can give each module text, and no command of their
+-- Contents that a script can restore in a session with these primitives, whose modules may have so many tokens: their
+-- names are labels and their trees terms, they are sound, a command can give each module text, and no command of their
 -- dump is longer than 65,536 bytes.
 pub record CanBeGiven (framing : Framing) (most : ℕ) (primitives : Primitives) (c : Contents) : Type 0 where
   pub named : AreNamedTerms c
@@ -111,9 +111,11 @@ pub record GivesAgain (framing : Framing) (c : Contents) (g : History) (replies 
 -- contents.
 abbrev pub DumpReadsBack : Type 0
 DumpReadsBack =
-    (meaning : Meaning) (framing : Framing) (stop : Bool) (budget : ℕ) (c : Contents) (h g : History) (flags : List Bool)
+    (meaning : Meaning) (framing : Framing) (stop : Bool) (budget : ℕ) (c : Contents) (h g : History)
+    (flags : List Bool)
     (replies : List Reply) → CanBeGiven framing h.limits.max_tokens h.primitives c → IsBare h → AreClear flags
-    → Replied stop (ReplyInRun meaning budget) (handed framing (dumped c)) flags h replies g → GivesAgain framing c g replies
+    → Replied stop (ReplyInRun meaning budget) (handed framing (dumped c)) flags h replies g
+    → GivesAgain framing c g replies
 
 -- Such a run exists on each such session: the dump is answered, and memory can grow in all its
 -- commands.

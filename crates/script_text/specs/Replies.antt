@@ -106,7 +106,8 @@ Replies meaning (unload name) h = Told (session.ComesTo (session.unload name) h)
 Replies meaning (apply name path budget text) h =
     Told (session.ComesTo (session.apply meaning name path budget text) h)
 Replies meaning (preview name path budget text) h =
-    (λ reply. (found : Result Preview Refusal) × Previews meaning name path budget text h found × (reply ≡ shown preview_text h found))
+    (λ reply. (found : Result Preview Refusal) × Previews meaning name path budget text h found
+    × (reply ≡ shown preview_text h found))
 Replies meaning (undo n) h = Told (session.ComesTo (session.undo n) h)
 Replies meaning (redo n) h = Told (session.ComesTo (session.redo n) h)
 Replies meaning begin h = Told (session.ComesTo session.begin h)
@@ -129,7 +130,8 @@ budgets_in h budget = record { most = h.limits.max_steps; usual = budget }
 -- The reply to a text that is a command, with this budget if it names none.
 abbrev pub ReplyToText : Meaning → ℕ → List ℕ → History → Reply → Type 0
 ReplyToText meaning budget command h reply =
-    MatchResult (command_of (budgets_in h budget) command) (λ form. Replies meaning form h reply) (λ refusal. reply ≡ Err refusal)
+    MatchResult (command_of (budgets_in h budget) command) (λ form. Replies meaning form h reply)
+    (λ refusal. reply ≡ Err refusal)
 
 -- the reply to a command as the splitter gives it
 abbrev pub ReplyTo : Meaning → ℕ → Handed → History → Reply → Type 0

@@ -35,16 +35,20 @@ Along End (i ∷ p) t u = Branches i (Along End p) t u
 
 -- ---- children after some
 
-passed : (q : List ℕ) (i : ℕ) (front ts us : List Tree) → differences_from q i (of_list (front ++ ts)) (of_list (front ++ us)) ≡ differences_from q (i + length front) (of_list ts) (of_list us)
-passed q i [] ts us = let here : i ≡ i + 0 = omega arith in ap (λ n. differences_from q n (of_list ts) (of_list us)) here
+passed : (q : List ℕ) (i : ℕ) (front ts us : List Tree) → differences_from q i
+    (of_list (front ++ ts)) (of_list (front ++ us)) ≡ differences_from q (i + length front) (of_list ts) (of_list us)
+passed q i [] ts us = let here : i ≡ i + 0 = omega arith in
+    ap (λ n. differences_from q n (of_list ts) (of_list us)) here
 passed q i (x ∷ front) ts us =
     let here : i + 1 + length front ≡ i + suc (length front) = omega arith in
-    ap (λ l. l ++ differences_from q (i + 1) (of_list (front ++ ts)) (of_list (front ++ us))) (differences_same (q ++ i ∷ []) x)
+    ap (λ l. l ++ differences_from q (i + 1) (of_list (front ++ ts)) (of_list (front ++ us)))
+    (differences_same (q ++ i ∷ []) x)
     ∙ passed q (i + 1) front ts us
     ∙ ap (λ n. differences_from q n (of_list ts) (of_list us)) here
 
 -- where only the children from some number on may differ
-below_branch : (q : List ℕ) (h : Head) (ns : Trees) (front : List Tree) (a b : Tree) (us vs : List Tree) → length us ≡ length vs
+below_branch : (q : List ℕ) (h : Head) (ns : Trees) (front : List Tree) (a b : Tree) (us vs : List Tree)
+    → length us ≡ length vs
     → differences q (branch h (of_list (front ++ a ∷ us)) ns) (branch h (of_list (front ++ b ∷ vs)) ns)
     ≡ differences (q ++ length front ∷ []) a b ++ differences_from q (length front + 1) (of_list us) (of_list vs)
 below_branch q h ns front a b us vs e =
@@ -56,7 +60,8 @@ below_branch q h ns front a b us vs e =
     omega (arith, e, ap length first, ap length second, length-append front (a ∷ us), length-append front (b ∷ vs)) in
     let zero_more : 0 + length front ≡ length front = omega arith in
     rw (head-self h, as_many_by ts xs count, trees_same ns)
-    (passed q 0 front (a ∷ us) (b ∷ vs) ∙ ap (λ n. differences_from q n (of_list (a ∷ us)) (of_list (b ∷ vs))) zero_more)
+    (passed q 0 front
+    (a ∷ us) (b ∷ vs) ∙ ap (λ n. differences_from q n (of_list (a ∷ us)) (of_list (b ∷ vs))) zero_more)
 
 -- ---- a change at the end
 
@@ -75,7 +80,8 @@ module _ (f : Tree → Tree) (extra : List ℕ → Tree → List Difference) (En
       let u' = branch hd (of_list (h.front ++ h.kid_too ∷ h.after_too)) ns in
       let rest = differences_from q (j + 1) (of_list h.after) (of_list h.after_too) in
       let there : at h.kid_too p ≡ Some w =
-      sym (at-child u' h.kid_too j p (kid_there hd ns h.front h.kid_too h.after_too)) ∙ (λ k. at (sym h.is_too k) (h.place k ∷ p)) ∙ e in
+      sym (at-child u' h.kid_too j p (kid_there hd ns h.front h.kid_too h.after_too))
+      ∙ (λ k. at (sym h.is_too k) (h.place k ∷ p)) ∙ e in
       let moved : changed_at f t (i ∷ p) ≡ branch hd (of_list (h.front ++ changed_at f h.kid p ∷ h.after)) ns =
       (λ k. changed_at f (h.is k) (sym h.place k ∷ p))
       ∙ changed_at-child f t' h.kid j p (kid_there hd ns h.front h.kid h.after)
@@ -85,7 +91,8 @@ module _ (f : Tree → Tree) (extra : List ℕ → Tree → List Difference) (En
       ∙ ap (λ l. l ++ rest) (change_differs (q ++ j ∷ []) p h.kid h.kid_too w h.next there)
       ∙ append_assoc (extra ((q ++ j ∷ []) ++ p) w) (differences (q ++ j ∷ []) h.kid h.kid_too) rest
       ∙ (λ k. extra ((append_assoc q (j ∷ []) p ∙ ap (λ n. q ++ n ∷ p) h.place) k) w
-      ++ (sym (below_branch q hd ns h.front h.kid h.kid_too h.after h.after_too h.count) ∙ (λ m. differences q (sym h.is m) (sym h.is_too m))) k)
+      ++ (sym (below_branch q hd ns h.front h.kid h.kid_too h.after h.after_too h.count)
+      ∙ (λ m. differences q (sym h.is m) (sym h.is_too m))) k)
 
 -- ---- what keeps them so
 
@@ -106,17 +113,20 @@ record Parted (l : List Tree) (i : ℕ) (kid : Tree) : Type 0 where
 
 parted : (l : List Tree) (i : ℕ) (kid : Tree) → slice_get l i ≡ Some kid → Parted l i kid
 parted [] i kid e = absurd (cc)
-parted (x ∷ l) zero kid e = let same : x ≡ kid = cc in record { front = []; after = l; place = refl; is = λ k. same k ∷ l }
+parted (x ∷ l) zero kid e = let same : x ≡ kid = cc in
+    record { front = []; after = l; place = refl; is = λ k. same k ∷ l }
 parted (x ∷ l) (suc i) kid e =
     let r = parted l i kid e in
     record { front = x ∷ r.front; after = r.after; place = ap suc r.place; is = ap (λ l. x ∷ l) r.is }
 
 -- a tree agrees with itself
-pub along_itself : (End : Tree → Tree → Type 0) → ((t : Tree) → End t t) → (p : List ℕ) (u w : Tree) → at u p ≡ Some w → Along End p u u
+pub along_itself : (End : Tree → Tree → Type 0) → ((t : Tree) → End t t) → (p : List ℕ) (u w : Tree) → at u p ≡ Some w
+    → Along End p u u
 along_itself End end [] u w e = end u
 along_itself End end (i ∷ p) (integer z ns) w e = absurd (cc)
 along_itself End end (i ∷ p) (branch h us ns) w e =
-    elim (slice_get (to_list us) i) as (λ o. slice_get (to_list us) i ≡ o → option_and_then (λ kid. at kid p) o ≡ Some w → Branches i (Along End p) (branch h us ns) (branch h us ns)) [
+    elim (slice_get (to_list us) i) as (λ o. slice_get (to_list us) i ≡ o → option_and_then (λ kid. at kid p) o ≡ Some w
+    → Branches i (Along End p) (branch h us ns) (branch h us ns)) [
       | None ↦ λ g e. absurd (cc)
       | Some kid ↦ λ g e.
           let r = parted (to_list us) i kid g in
@@ -139,13 +149,15 @@ along_itself End end (i ∷ p) (branch h us ns) w e =
     ] refl e
 
 -- a later child changes
-later_child : (i j : ℕ) (Next : Tree → Tree → Type 0) (g : Tree → Tree) (r : List ℕ) (t u : Tree) → i < j → Branches i Next t u → Branches i Next (changed_at g t (j ∷ r)) u
+later_child : (i j : ℕ) (Next : Tree → Tree → Type 0) (g : Tree → Tree) (r : List ℕ) (t u : Tree)
+    → i < j → Branches i Next t u → Branches i Next (changed_at g t (j ∷ r)) u
 later_child i j Next g r t u less h =
     let all = h.front ++ h.kid ∷ h.after in
     let t' = branch h.head (of_list all) h.notes in
     elim (slice_get all j) as (λ o. slice_get all j ≡ o → Branches i Next (changed_at g t (j ∷ r)) u) [
       | None ↦ λ e. subst (λ x. Branches i Next x u)
-          (sym ((λ k. changed_at g (h.is k) (j ∷ r)) ∙ changed_at-no_child g t' j r (ap (λ l. slice_get l j) (to_list-of_list all) ∙ e) ∙ sym h.is)) h
+          (sym ((λ k. changed_at g (h.is k) (j ∷ r)) ∙ changed_at-no_child g t' j r
+          (ap (λ l. slice_get l j) (to_list-of_list all) ∙ e) ∙ sym h.is)) h
       | Some kid ↦ λ e.
           let x = changed_at g kid r in
           let n = length h.front in
@@ -156,7 +168,8 @@ later_child i j Next g r t u less h =
           ∙ changed_at-child g t' kid j r (ap (λ l. slice_get l j) (to_list-of_list all) ∙ e)
           ∙ ap (λ l. branch h.head (of_list (set l j x)) h.notes) (to_list-of_list all)
           ∙ ap (λ l. branch h.head (of_list l) h.notes)
-          (set-append_right h.front (h.kid ∷ h.after) n j x refl (omega (arith, less, h.place)) ∙ ap (λ q. h.front ++ set (h.kid ∷ h.after) q x) far) in
+          (set-append_right h.front (h.kid ∷ h.after) n j x refl (omega (arith, less, h.place))
+          ∙ ap (λ q. h.front ++ set (h.kid ∷ h.after) q x) far) in
           record {
             head = h.head;
             notes = h.notes;
@@ -186,7 +199,8 @@ module _ (End : Tree → Tree → Type 0) (May : Type 0) (g : Tree → Tree)
             (let n = length h.front in
             let t' = branch h.head (of_list (h.front ++ h.kid ∷ h.after)) h.notes in
             let here : j ≡ n = sym same.0 ∙ sym h.place in
-            let moved : changed_at g t (j ∷ r) ≡ branch h.head (of_list (h.front ++ changed_at g h.kid r ∷ h.after)) h.notes =
+            let moved : changed_at g t (j ∷ r) ≡ branch h.head
+            (of_list (h.front ++ changed_at g h.kid r ∷ h.after)) h.notes =
             (λ k. changed_at g (h.is k) (here k ∷ r))
             ∙ changed_at-child g t' h.kid n r (kid_there h.head h.notes h.front h.kid h.after)
             ∙ kid_set h.head h.notes h.front h.kid h.after (changed_at g h.kid r) in

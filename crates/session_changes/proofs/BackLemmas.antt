@@ -20,19 +20,23 @@ use Rattle.session_changes.proofs.DifferenceLemmas.{and_left, and_right, trees_e
 set_same : (w u : Tree) (p : List ℕ) → at w p ≡ Some u → set_at w p u ≡ w
 set_same w u p e = sym (last_set_stays w u u p) ∙ putting_back w u u p e
 
-annotations_set : (w u : Tree) (l : List Tree) (p : List ℕ) → at w p ≡ Some u → set_annotations_at w p l ≡ set_at w p (with_annotations u l)
+annotations_set : (w u : Tree) (l : List Tree) (p : List ℕ) → at w p ≡ Some u
+    → set_annotations_at w p l ≡ set_at w p (with_annotations u l)
 annotations_set w u l p e = ap (λ q. set_annotations_at w q l) (sym (append-nil p)) ∙ set_annotations_after w u l p [] e
 
-all_put_back-append : (w : Tree) (xs ys : List Difference) → all_put_back w (xs ++ ys) ≡ all_put_back (all_put_back w xs) ys
+all_put_back-append : (w : Tree) (xs ys : List Difference)
+    → all_put_back w (xs ++ ys) ≡ all_put_back (all_put_back w xs) ys
 all_put_back-append w [] ys = refl
 all_put_back-append w (x ∷ xs) ys = all_put_back-append (put_back x w) xs ys
 
 -- ---- annotations
 
-annotated_back : (w : Tree) (p : List ℕ) (ns ms : Trees) (u v : Tree) → at w p ≡ Some u → v ≡ with_annotations u (to_list ns) → (ms ≡ ns → u ≡ v)
+annotated_back : (w : Tree) (p : List ℕ) (ns ms : Trees) (u v : Tree) → at w p ≡ Some u
+    → v ≡ with_annotations u (to_list ns) → (ms ≡ ns → u ≡ v)
     → all_put_back w (annotated p ns ms) ≡ set_at w p v
 annotated_back w p ns ms u v e is same =
-    elim (same_trees ns ms) as (λ b. same_trees ns ms ≡ b → all_put_back w (if b then [] else annotations_differ p ns ms ∷ []) ≡ set_at w p v) [
+    elim (same_trees ns ms) as (λ b.
+    same_trees ns ms ≡ b → all_put_back w (if b then [] else annotations_differ p ns ms ∷ []) ≡ set_at w p v) [
       | true ↦ λ test. let equal : ns ≡ ms = (trees_equal ns ms).0 test in
           sym (set_same w u p e) ∙ ap (set_at w p) (same (sym equal))
       | false ↦ λ test. annotations_set w u (to_list ns) p e ∙ ap (set_at w p) (sym is)
@@ -43,23 +47,28 @@ annotated_back w p ns ms u v e is same =
 mutual
   tree_back : (w : Tree) (p : List ℕ) (t u : Tree) → at w p ≡ Some u → all_put_back w (differences p t u) ≡ set_at w p t
   tree_back w p (integer y ns) (integer z ms) e =
-      elim (int_eq y z) as (λ b. int_eq y z ≡ b → all_put_back w (if b then annotated p ns ms else subterms_differ p (integer y ns) (integer z ms) ∷ []) ≡ set_at w p (integer y ns)) [
+      elim (int_eq y z) as (λ b. int_eq y z ≡ b → all_put_back w (if b then annotated p ns ms else subterms_differ p
+      (integer y ns) (integer z ms) ∷ []) ≡ set_at w p (integer y ns)) [
         | true ↦ λ test. let same : y ≡ z = (Decides-int_eq y z).0 test in
-            annotated_back w p ns ms (integer z ms) (integer y ns) e (λ k. integer (same k) (sym (of_list-to_list ns) k)) (λ equal k. integer (sym same k) (equal k))
+            annotated_back w p ns ms (integer z ms) (integer y ns) e
+            (λ k. integer (same k) (sym (of_list-to_list ns) k)) (λ equal k. integer (sym same k) (equal k))
         | false ↦ λ test. refl
       ] refl
   tree_back w p (integer y ns) (branch k vs ms) e = refl
   tree_back w p (branch h us ns) (integer z ms) e = refl
   tree_back w p (branch h us ns) (branch k vs ms) e =
       elim (same_head h k && as_many us vs) as (λ b. same_head h k && as_many us vs ≡ b
-      → all_put_back w (if b then annotated p ns ms ++ differences_from p 0 us vs else subterms_differ p (branch h us ns) (branch k vs ms) ∷ []) ≡ set_at w p (branch h us ns)) [
+      → all_put_back w (if b then annotated p ns ms ++ differences_from p 0 us vs else subterms_differ p
+      (branch h us ns) (branch k vs ms) ∷ []) ≡ set_at w p (branch h us ns)) [
         | true ↦ λ test.
             let same : h ≡ k = head-eq h k (and_left (same_head h k) (as_many us vs) test) in
             let count = and_right (same_head h k) (as_many us vs) test in
             let first : all_put_back w (annotated p ns ms) ≡ set_at w p (branch k vs ns) =
-            annotated_back w p ns ms (branch k vs ms) (branch k vs ns) e (λ j. branch k vs (sym (of_list-to_list ns) j)) (λ equal j. branch k vs (equal j)) in
+            annotated_back w p ns ms (branch k vs ms) (branch k vs ns) e (λ j. branch k vs (sym (of_list-to_list ns) j))
+            (λ equal j. branch k vs (equal j)) in
             let there : at (set_at w p (branch k vs ns)) p ≡ Some (branch k (of_list ([] ++ to_list vs)) ns) =
-            set_is_there w (branch k vs ns) (branch k vs ms) p e ∙ (λ j. Some (branch k (sym (of_list-to_list vs) j) ns)) in
+            set_is_there w (branch k vs ns) (branch k vs ms) p e
+            ∙ (λ j. Some (branch k (sym (of_list-to_list vs) j) ns)) in
             all_put_back-append w (annotated p ns ms) (differences_from p 0 us vs)
             ∙ ap (λ x. all_put_back x (differences_from p 0 us vs)) first
             ∙ trees_back (set_at w p (branch k vs ns)) p k ns [] us vs count there
@@ -77,10 +86,12 @@ mutual
   trees_back w p h ns pre (more t ts) (more u us) count e =
       let i = length pre in
       let b = branch h (of_list (pre ++ u ∷ to_list us)) ns in
-      let kid : at w (p ++ i ∷ []) ≡ Some u = at-append w p (i ∷ []) ∙ ap (option_and_then (λ x. at x (i ∷ []))) e ∙ at-child b u i [] (kid_there h ns pre u (to_list us)) in
+      let kid : at w (p ++ i ∷ []) ≡ Some u = at-append w p (i ∷ []) ∙ ap (option_and_then (λ x. at x (i ∷ []))) e
+      ∙ at-child b u i [] (kid_there h ns pre u (to_list us)) in
       let after = branch h (of_list (pre ++ t ∷ to_list us)) ns in
       let first : all_put_back w (differences (p ++ i ∷ []) t u) ≡ set_at w p after =
-      tree_back w (p ++ i ∷ []) t u kid ∙ set_after w b t p (i ∷ []) e ∙ ap (set_at w p) (set_at-child b u t i [] (kid_there h ns pre u (to_list us)) ∙ kid_set h ns pre u (to_list us) t) in
+      tree_back w (p ++ i ∷ []) t u kid ∙ set_after w b t p (i ∷ []) e ∙ ap (set_at w p)
+      (set_at-child b u t i [] (kid_there h ns pre u (to_list us)) ∙ kid_set h ns pre u (to_list us) t) in
       let on : length (pre ++ t ∷ []) ≡ i + 1 = length-append pre (t ∷ []) in
       let assoc : (vs : List Tree) → (pre ++ t ∷ []) ++ vs ≡ pre ++ t ∷ vs = λ vs. append_assoc pre (t ∷ []) vs in
       let there : at (set_at w p after) p ≡ Some (branch h (of_list ((pre ++ t ∷ []) ++ to_list us)) ns) =

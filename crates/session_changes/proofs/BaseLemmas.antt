@@ -18,12 +18,14 @@ use Rattle.session_changes.specs.inside.Told.{log_lines}
 use Rattle.session_changes.specs.declared.lines.CountedLines.{CountedLines}
 
 module _ (name : Option (List ℕ)) (old mid : Logged) (keeps : KeepsHistory old mid) where
-  pub same_refusal : (r : Refusal) → ((ps : List Signature) → base_of (unfolded ps mid) ≡ Err r) → (ps : List Signature) → base_of (unfolded ps old) ≡ Err r
+  pub same_refusal : (r : Refusal) → ((ps : List Signature) → base_of (unfolded ps mid) ≡ Err r) → (ps : List Signature)
+      → base_of (unfolded ps old) ≡ Err r
   same_refusal r h ps = ap base_of (sym (keeps.same ps)) ∙ h ps
 
   -- the lines follow their number
   pub told_changes : (a b : CountedLines) (out new : List ℕ) → a.text.items ≡ [] → a.count ≡ 0
-      → ((ps : List Signature) → (base : Contents) × (base_of (unfolded ps mid) ≡ Ok base) × AddsLines (changes_of name base (contents mid.store)) a b)
+      → ((ps : List Signature) → (base : Contents) × (base_of (unfolded ps mid) ≡ Ok base)
+      × AddsLines (changes_of name base (contents mid.store)) a b)
       → new ≡ out ++ (codes "changes " ++ decimal b.count ++ 10 ∷ b.text.items)
       → (ps : List Signature) → TellsChanges name (unfolded ps old) out new
   told_changes a b out new begun none adds is ps =
@@ -46,7 +48,9 @@ pub outside_group : (o : Option OpenGroup) (l : List Entry) → None ≡ option_
 outside_group None l e = refl
 outside_group (Some g) l e = absurd (cc)
 
-pub adds_changes : (name : Option (List ℕ)) (t : Logged) (log : List Entry) (s : Store) (a b : CountedLines) → s ≡ t.store → LeadsToBase log t → AddsLines (log_lines name log s) a b
-    → (ps : List Signature) → (base : Contents) × (base_of (unfolded ps t) ≡ Ok base) × AddsLines (changes_of name base (contents t.store)) a b
+pub adds_changes : (name : Option (List ℕ)) (t : Logged) (log : List Entry) (s : Store) (a b : CountedLines)
+    → s ≡ t.store → LeadsToBase log t → AddsLines (log_lines name log s) a b
+    → (ps : List Signature)
+    → (base : Contents) × (base_of (unfolded ps t) ≡ Ok base) × AddsLines (changes_of name base (contents t.store)) a b
 adds_changes name t log s a b same leads adds ps =
     (contents (before log t.store), leads.base ps, subst (λ x. AddsLines (log_lines name log x) a b) same adds)

@@ -48,8 +48,12 @@ kids_of_list : (ts us : Trees) → branch list ts none ≡ branch list us none �
 kids_of_list ts us e = cc
 
 pub trees_equal : (ts us : Trees) → (same_trees ts us ≡ true) ↔ (ts ≡ us)
-trees_equal ts us =
-    (λ e. kids_of_list ts us ((same_is_equal (branch list ts none) (branch list us none)).0 (and_true (same_trees ts us) ∙ e)), λ e. ap (same_trees ts) (sym e) ∙ trees_same ts)
+trees_equal ts us = (
+  λ e.
+      kids_of_list ts us
+      ((same_is_equal (branch list ts none) (branch list us none)).0 (and_true (same_trees ts us) ∙ e)),
+  λ e. ap (same_trees ts) (sym e) ∙ trees_same ts,
+)
 
 as_many_same : (ts : Trees) → as_many ts ts ≡ true
 as_many_same none = refl
@@ -61,7 +65,8 @@ annotated_same path ts = rw (trees_same ts) refl
 pub annotated_equal : (path : List ℕ) (ts us : List Tree) → ts ≡ us → annotated path (of_list ts) (of_list us) ≡ []
 annotated_equal path ts us e = ap (λ l. annotated path (of_list l) (of_list us)) e ∙ annotated_same path (of_list us)
 
-pub annotated_apart : (path : List ℕ) (ts us : List Tree) → (ts ≡ us → ⊥) → annotated path (of_list ts) (of_list us) ≡ annotations_differ path (of_list ts) (of_list us) ∷ []
+pub annotated_apart : (path : List ℕ) (ts us : List Tree)
+    → (ts ≡ us → ⊥) → annotated path (of_list ts) (of_list us) ≡ annotations_differ path (of_list ts) (of_list us) ∷ []
 annotated_apart path ts us never =
     let alike = trees_equal (of_list ts) (of_list us) in
     let test : same_trees (of_list ts) (of_list us) ≡ false =
@@ -79,26 +84,32 @@ mutual
   pub from_same : (path : List ℕ) (i : ℕ) (ts : Trees) → differences_from path i ts ts ≡ []
   from_same path i none = refl
   from_same path i (more t ts) =
-      ap (λ l. l ++ differences_from path (i + 1) ts ts) (differences_same (path ++ i ∷ []) t) ∙ from_same path (i + 1) ts
+      ap (λ l. l ++ differences_from path (i + 1) ts ts) (differences_same (path ++ i ∷ []) t)
+      ∙ from_same path (i + 1) ts
 
 -- ---- by the root
 
-pub differ_at_root : (path : List ℕ) (t u : Tree) → same_root t u ≡ false → differences path t u ≡ subterms_differ path t u ∷ []
+pub differ_at_root : (path : List ℕ) (t u : Tree)
+    → same_root t u ≡ false → differences path t u ≡ subterms_differ path t u ∷ []
 differ_at_root path (integer y ns) (integer z ms) e = let test : int_eq y z ≡ false = e in rw test refl
 differ_at_root path (integer y ns) (branch k vs ms) e = refl
 differ_at_root path (branch h us ns) (integer z ms) e = refl
-differ_at_root path (branch h us ns) (branch k vs ms) e = let test : same_head h k && as_many us vs ≡ false = e in rw test refl
+differ_at_root path (branch h us ns) (branch k vs ms) e = let test : same_head h k && as_many us vs ≡ false = e in
+    rw test refl
 
 pub differ_below : (path : List ℕ) (t u : Tree) → same_root t u ≡ true
-    → differences path t u ≡ annotated path (of_list (annotations t)) (of_list (annotations u)) ++ differences_from path 0 (of_list (children t)) (of_list (children u))
+    → differences path t u ≡ annotated path (of_list (annotations t)) (of_list (annotations u))
+    ++ differences_from path 0 (of_list (children t)) (of_list (children u))
 differ_below path (integer y ns) (integer z ms) e =
     let test : int_eq y z ≡ true = e in
-    rw test ((λ k. annotated path (sym (of_list-to_list ns) k) (sym (of_list-to_list ms) k)) ∙ sym (append-nil (annotated path (of_list (to_list ns)) (of_list (to_list ms)))))
+    rw test ((λ k. annotated path (sym (of_list-to_list ns) k) (sym (of_list-to_list ms) k))
+    ∙ sym (append-nil (annotated path (of_list (to_list ns)) (of_list (to_list ms)))))
 differ_below path (integer y ns) (branch k vs ms) e = absurd (cc)
 differ_below path (branch h us ns) (integer z ms) e = absurd (cc)
 differ_below path (branch h us ns) (branch k vs ms) e =
     let test : same_head h k && as_many us vs ≡ true = e in
-    rw test (λ j. annotated path (sym (of_list-to_list ns) j) (sym (of_list-to_list ms) j) ++ differences_from path 0 (sym (of_list-to_list us) j) (sym (of_list-to_list vs) j))
+    rw test (λ j. annotated path (sym (of_list-to_list ns) j) (sym (of_list-to_list ms) j)
+    ++ differences_from path 0 (sym (of_list-to_list us) j) (sym (of_list-to_list vs) j))
 
 pub as_many_count : (ts us : Trees) → as_many ts us ≡ true → length (to_list ts) ≡ length (to_list us)
 as_many_count none none e = refl
@@ -130,13 +141,15 @@ root_apart (branch h us ns) (branch k vs ms) never =
     ] refl
 
 -- with as many the kinds decide
-root_made : (a b : Kind) (us ns vs ms : List Tree) → length (children (made_of a us ns)) ≡ length (children (made_of b vs ms)) → same_root (made_of a us ns) (made_of b vs ms) ≡ same_kind a b
+root_made : (a b : Kind) (us ns vs ms : List Tree) → length (children (made_of a us ns))
+    ≡ length (children (made_of b vs ms)) → same_root (made_of a us ns) (made_of b vs ms) ≡ same_kind a b
 root_made (Integer y) (Integer z) us ns vs ms e = refl
 root_made (Integer y) (Application g) us ns vs ms e = refl
 root_made (Integer y) AList us ns vs ms e = refl
 root_made (Integer y) Tuple us ns vs ms e = refl
 root_made (Application f) (Integer z) us ns vs ms e = refl
-root_made (Application f) (Application g) us ns vs ms e = ap (λ b. same_name f.now g.now && b) (as_many_by (of_list us) (of_list vs) e) ∙ and_true (same_name f.now g.now)
+root_made (Application f) (Application g) us ns vs ms e =
+    ap (λ b. same_name f.now g.now && b) (as_many_by (of_list us) (of_list vs) e) ∙ and_true (same_name f.now g.now)
 root_made (Application f) AList us ns vs ms e = refl
 root_made (Application f) Tuple us ns vs ms e = refl
 root_made AList (Integer z) us ns vs ms e = refl
@@ -148,20 +161,25 @@ root_made Tuple (Application g) us ns vs ms e = refl
 root_made Tuple AList us ns vs ms e = refl
 root_made Tuple Tuple us ns vs ms e = as_many_by (of_list us) (of_list vs) e
 
-pub root_alike : (t u : Tree) (a b : Kind) → t ≡ made_of a (children t) (annotations t) → u ≡ made_of b (children u) (annotations u)
+pub root_alike : (t u : Tree) (a b : Kind) → t ≡ made_of a (children t) (annotations t)
+    → u ≡ made_of b (children u) (annotations u)
     → length (children t) ≡ length (children u) → same_root t u ≡ same_kind a b
 root_alike t u a b is are e =
     (λ k. same_root (is k) (are k))
-    ∙ root_made a b (children t) (annotations t) (children u) (annotations u) (sym (ap (λ t. length (children t)) is) ∙ e ∙ ap (λ u. length (children u)) are)
+    ∙ root_made a b (children t) (annotations t) (children u) (annotations u)
+    (sym (ap (λ t. length (children t)) is) ∙ e ∙ ap (λ u. length (children u)) are)
 
 -- ---- one child after the other
 
 pub next_child : (path : List ℕ) (i : ℕ) (ts us : List Tree) (d : Tree) → i < length ts → i < length us
     → differences_from path i (of_list (drop i ts)) (of_list (drop i us))
-    ≡ differences (path ++ i ∷ []) (get_or ts i d) (get_or us i d) ++ differences_from path (i + 1) (of_list (drop (i + 1) ts)) (of_list (drop (i + 1) us))
-next_child path i ts us d h g = λ k. differences_from path i (of_list (drop_more ts i d h k)) (of_list (drop_more us i d g k))
+    ≡ differences (path ++ i ∷ []) (get_or ts i d) (get_or us i d)
+    ++ differences_from path (i + 1) (of_list (drop (i + 1) ts)) (of_list (drop (i + 1) us))
+next_child path i ts us d h g =
+    λ k. differences_from path i (of_list (drop_more ts i d h k)) (of_list (drop_more us i d g k))
 
-pub past_children : (path : List ℕ) (i : ℕ) (ts us : List Tree) → length ts ≤ i → differences_from path i (of_list (drop i ts)) (of_list (drop i us)) ≡ []
+pub past_children : (path : List ℕ) (i : ℕ) (ts us : List Tree)
+    → length ts ≤ i → differences_from path i (of_list (drop i ts)) (of_list (drop i us)) ≡ []
 past_children path i ts us h = ap (λ l. differences_from path i (of_list l) (of_list (drop i us))) (drop_all i ts h)
 
 -- ---- a child after others
@@ -174,7 +192,8 @@ module _ (h : Head) (ns : Trees) (front : List Tree) (u : Tree) (after : List Tr
   pub kid_there : slice_get (children (branch h (of_list (front ++ u ∷ after)) ns)) (length front) ≡ Some u
   kid_there = ap (λ l. slice_get l (length front)) (to_list-of_list (front ++ u ∷ after)) ∙ seam front
 
-  pub kid_set : (t : Tree) → with_child (branch h (of_list (front ++ u ∷ after)) ns) (length front) t ≡ branch h (of_list (front ++ t ∷ after)) ns
+  pub kid_set : (t : Tree) → with_child (branch h (of_list (front ++ u ∷ after)) ns) (length front) t
+      ≡ branch h (of_list (front ++ t ∷ after)) ns
   kid_set t =
       ap (λ l. branch h (of_list (set l (length front) t)) ns) (to_list-of_list (front ++ u ∷ after))
       ∙ ap (λ l. branch h (of_list l) ns) (set-append_seam front u after t)
@@ -187,7 +206,8 @@ root_same (branch h us ns) = rw (head-self h) (as_many_same us)
 
 -- other annotations leave root and children
 pub root_kept : (t : Tree) (ts : List Tree)
-    → ((u : Tree) → same_root (with_annotations t ts) u ≡ same_root t u) × (annotations (with_annotations t ts) ≡ ts) × (children (with_annotations t ts) ≡ children t)
+    → ((u : Tree) → same_root (with_annotations t ts) u ≡ same_root t u)
+    × (annotations (with_annotations t ts) ≡ ts) × (children (with_annotations t ts) ≡ children t)
 root_kept (integer z ns) ts = (kept, to_list-of_list ts, refl)
   where
     kept : (u : Tree) → same_root (integer z (of_list ts)) u ≡ same_root (integer z ns) u
@@ -207,7 +227,8 @@ child_kept (branch h us ns) i x (branch k vs ms) e =
     let head = and_left (same_head h k) (as_many us vs) e in
     let count = as_many_count us vs (and_right (same_head h k) (as_many us vs) e) in
     let ts = of_list (set (to_list us) i x) in
-    let more : length (to_list ts) ≡ length (to_list vs) = ap length (to_list-of_list (set (to_list us) i x)) ∙ length-set (to_list us) i x ∙ count in
+    let more : length (to_list ts) ≡ length (to_list vs) = ap length (to_list-of_list (set (to_list us) i x))
+    ∙ length-set (to_list us) i x ∙ count in
     rw head (as_many_by ts vs more)
 
 pub child_notes : (t : Tree) (i : ℕ) (x : Tree) → annotations (with_child t i x) ≡ annotations t

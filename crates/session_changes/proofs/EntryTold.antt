@@ -22,11 +22,13 @@ use Rattle.session_changes.proofs.LogTold.{log_told, nothing_changed}
 
 -- ---- what is asked for
 
-pub asked_told : {A : Type 0} (asked : Option (List ℕ)) (n : List ℕ) (xs : List A) → IsAsked asked n → if_asked asked n xs ≡ xs
+pub asked_told : {A : Type 0} (asked : Option (List ℕ)) (n : List ℕ) (xs : List A) → IsAsked asked n
+    → if_asked asked n xs ≡ xs
 asked_told None n xs h = refl
 asked_told (Some m) n xs h = ap (λ b. if b then xs else []) ((bytes_decides m n).1 h)
 
-pub unasked_told : {A : Type 0} (asked : Option (List ℕ)) (n : List ℕ) (xs : List A) → (IsAsked asked n → ⊥) → if_asked asked n xs ≡ []
+pub unasked_told : {A : Type 0} (asked : Option (List ℕ)) (n : List ℕ) (xs : List A)
+    → (IsAsked asked n → ⊥) → if_asked asked n xs ≡ []
 unasked_told None n xs never = absurd (never tt)
 unasked_told (Some m) n xs never =
     elim (bytes_eq m n) as (λ b. bytes_eq m n ≡ b → (if b then xs else []) ≡ []) [
@@ -34,8 +36,10 @@ unasked_told (Some m) n xs never =
       | false ↦ λ e. refl
     ] refl
 
-module _ (asked : Option (List ℕ)) (s : Store) (trees_are : HaveDistinctLabels s.trees) (texts_are : HaveDistinctLabels s.modules) where
-  pub one_told : (n : List ℕ) (e : Entry) → IsNamed s n e → Fits (e ∷ []) s → log_lines asked (e ∷ []) s ≡ flat_map (asked_lines asked s) ((n, e) ∷ [])
+module _ (asked : Option (List ℕ)) (s : Store) (trees_are : HaveDistinctLabels s.trees)
+    (texts_are : HaveDistinctLabels s.modules) where
+  pub one_told : (n : List ℕ) (e : Entry) → IsNamed s n e → Fits (e ∷ []) s
+      → log_lines asked (e ∷ []) s ≡ flat_map (asked_lines asked s) ((n, e) ∷ [])
   one_told n e named fits = log_told asked s trees_are texts_are ((n, e) ∷ []) (named, tt) (tt, tt) fits
 
   -- ---- a patch
@@ -45,10 +49,13 @@ module _ (asked : Option (List ℕ)) (s : Store) (trees_are : HaveDistinctLabels
     told = ap (λ x. changes_of asked (contents x) (contents s)) (leads_both_ways c i p s).1
 
     -- where nothing is put
-    as_before : with_content s.trees i (option_map (λ t. changed_in c t p) (content s.trees i)) ≡ s.trees → log_lines asked (patch_entries i p c) s ≡ []
-    as_before e = told ∙ ap (λ ts. changes_of asked (contents (record s { trees = ts })) (contents s)) e ∙ nothing_changed asked (contents s)
+    as_before : with_content s.trees i (option_map (λ t. changed_in c t p) (content s.trees i))
+        ≡ s.trees → log_lines asked (patch_entries i p c) s ≡ []
+    as_before e = told ∙ ap (λ ts. changes_of asked (contents (record s { trees = ts })) (contents s)) e
+        ∙ nothing_changed asked (contents s)
 
-    same_there : option_map (λ t. changed_in c t p) (content s.trees i) ≡ content s.trees i → log_lines asked (patch_entries i p c) s ≡ []
+    same_there : option_map (λ t. changed_in c t p) (content s.trees i) ≡ content s.trees i
+        → log_lines asked (patch_entries i p c) s ≡ []
     same_there e = as_before (ap (with_content s.trees i) e ∙ same_content s.trees i)
 
     pub no_slot_told : slice_get s.trees i ≡ None → log_lines asked (patch_entries i p c) s ≡ []
@@ -57,22 +64,28 @@ module _ (asked : Option (List ℕ)) (s : Store) (trees_are : HaveDistinctLabels
     pub no_tree_told : content s.trees i ≡ None → log_lines asked (patch_entries i p c) s ≡ []
     no_tree_told e = same_there (ap (option_map (λ t. changed_in c t p)) e ∙ sym e)
 
-    pub no_part_told : (t : Tree) → content s.trees i ≡ Some t → at t p ≡ None → log_lines asked (patch_entries i p c) s ≡ []
+    pub no_part_told : (t : Tree) → content s.trees i ≡ Some t
+        → at t p ≡ None → log_lines asked (patch_entries i p c) s ≡ []
     no_part_told t e none =
-        same_there (ap (option_map (λ t. changed_in c t p)) e ∙ ap (λ o. Some (option_map_or (λ u. set_at t p (changed c u)) o t)) none ∙ sym e)
+        same_there (ap (option_map (λ t. changed_in c t p)) e
+        ∙ ap (λ o. Some (option_map_or (λ u. set_at t p (changed c u)) o t)) none ∙ sym e)
 
     module _ (n : List ℕ) (slot : slot_of s.trees n ≡ Some i) where
       pub other_told : (IsAsked asked n → ⊥) → log_lines asked (patch_entries i p c) s ≡ []
-      other_told never = told ∙ no_tree_changes s i n trees_are slot (option_map (λ t. changed_in c t p) (content s.trees i)) asked never
+      other_told never = told
+          ∙ no_tree_changes s i n trees_are slot (option_map (λ t. changed_in c t p) (content s.trees i)) asked never
 
       pub patch_told : (t w : Tree) → content s.trees i ≡ Some t → at t p ≡ Some w → IsAsked asked n
           → log_lines asked (patch_entries i p c) s ≡ map (difference_line n) (differences p (changed c w) w)
       patch_told t w e there h =
           let e' = subterm i p (changed c w) in
           let lines = map (difference_line n) (differences p (changed c w) w) in
-          let found : option_and_then (λ t. at t p) (content s.trees i) ≡ Some w = ap (option_and_then (λ t. at t p)) e ∙ there in
-          let put_there : option_map (λ t. changed_in c t p) (content s.trees i) ≡ option_map (λ t. set_at t p (changed c w)) (content s.trees i) =
-          ap (option_map (λ t. changed_in c t p)) e ∙ ap (λ o. Some (option_map_or (λ u. set_at t p (changed c u)) o t)) there
+          let found : option_and_then (λ t. at t p) (content s.trees i) ≡ Some w = ap (option_and_then (λ t. at t p)) e
+          ∙ there in
+          let put_there : option_map (λ t. changed_in c t p) (content s.trees i) ≡ option_map (λ t.
+          set_at t p (changed c w)) (content s.trees i) =
+          ap (option_map (λ t. changed_in c t p)) e
+          ∙ ap (λ o. Some (option_map_or (λ u. set_at t p (changed c u)) o t)) there
           ∙ ap (option_map (λ t. set_at t p (changed c w))) (sym e) in
           let fits : Fits (e' ∷ []) s = (ap is_some found, tt) in
           told

@@ -56,28 +56,35 @@ agrees_itself (slot_text i y) t = refl
 same_trees_differ : (q : List ℕ) (t u : Tree) → t ≡ u → differences q t u ≡ []
 same_trees_differ q t u e = ap (λ x. differences q x u) e ∙ differences_same q u
 
-pub told_at_end : (e : Entry) (q : List ℕ) (t u : Tree) → Agrees e t u → differences q (change_of e t) u ≡ told_at e q u ++ differences q t u
+pub told_at_end : (e : Entry) (q : List ℕ) (t u : Tree) → Agrees e t u
+    → differences q (change_of e t) u ≡ told_at e q u ++ differences q t u
 told_at_end (slot_tree i x) q t u h = refl
-told_at_end (subterm i p x) q t u h = sym (append-nil (differences q x u)) ∙ ap (λ l. differences q x u ++ l) (sym (same_trees_differ q t u h))
+told_at_end (subterm i p x) q t u h = sym (append-nil (differences q x u))
+    ∙ ap (λ l. differences q x u ++ l) (sym (same_trees_differ q t u h))
 told_at_end (subterm_annotations i p ts) q t u h =
     let annotations_now = root_kept t ts in
     let below = differences_from q 0 (of_list (children t)) (of_list (children u)) in
     differ_below q (with_annotations t ts) u (annotations_now.0 u ∙ h.0)
-    ∙ (λ k. annotated q (of_list (annotations_now.1 k)) (of_list (annotations u)) ++ differences_from q 0 (of_list (annotations_now.2 k)) (of_list (children u)))
+    ∙ (λ k. annotated q (of_list (annotations_now.1 k)) (of_list (annotations u))
+    ++ differences_from q 0 (of_list (annotations_now.2 k)) (of_list (children u)))
     ∙ ap (λ l. annotated q (of_list ts) (of_list (annotations u)) ++ l)
-    (ap (λ l. l ++ below) (sym (annotated_same q (of_list (annotations u))) ∙ (λ k. annotated q (of_list (sym h.1 k)) (of_list (annotations u)))) ∙ sym (differ_below q t u h.0))
+    (ap (λ l. l ++ below) (sym (annotated_same q (of_list (annotations u)))
+    ∙ (λ k. annotated q (of_list (sym h.1 k)) (of_list (annotations u)))) ∙ sym (differ_below q t u h.0))
 told_at_end (slot_text i y) q t u h = refl
 
-root_below : (g : Tree → Tree) (t u : Tree) (j : ℕ) (r : List ℕ) → (same_root t u ≡ true) × (annotations t ≡ annotations u)
+root_below : (g : Tree → Tree) (t u : Tree) (j : ℕ) (r : List ℕ)
+    → (same_root t u ≡ true) × (annotations t ≡ annotations u)
     → (same_root (changed_at g t (j ∷ r)) u ≡ true) × (annotations (changed_at g t (j ∷ r)) ≡ annotations u)
 root_below g t u j r h =
-    elim (slice_get (children t) j) as (λ o. (same_root (option_map_or (λ kid. with_child t j (changed_at g kid r)) o t) u ≡ true)
+    elim (slice_get (children t) j) as (λ o.
+    (same_root (option_map_or (λ kid. with_child t j (changed_at g kid r)) o t) u ≡ true)
     × (annotations (option_map_or (λ kid. with_child t j (changed_at g kid r)) o t) ≡ annotations u)) [
       | None ↦ h
       | Some kid ↦ (child_kept t j (changed_at g kid r) u h.0, child_notes t j (changed_at g kid r) ∙ h.1)
     ]
 
-pub agrees_kept : (e : Entry) (g : Tree → Tree) (t u : Tree) → Agrees e t u → MayGoOn e → (j : ℕ) (r : List ℕ) → Agrees e (changed_at g t (j ∷ r)) u
+pub agrees_kept : (e : Entry) (g : Tree → Tree) (t u : Tree) → Agrees e t u → MayGoOn e → (j : ℕ) (r : List ℕ)
+    → Agrees e (changed_at g t (j ∷ r)) u
 agrees_kept (slot_tree i x) g t u h may j r = absurd may
 agrees_kept (subterm i p x) g t u h may j r = absurd may
 agrees_kept (subterm_annotations i p ts) g t u h may j r = root_below g t u j r h
@@ -102,10 +109,12 @@ AreTold u (e ∷ es) = AllLater e es × ((w : Tree) × (at u (path_of e) ≡ Som
 abbrev pub told : Tree → Entry → List Difference
 told u e = option_map_or (told_at e (path_of e)) (at u (path_of e)) []
 
-agree_before : (d : Entry) (es : List Entry) (u : Tree) → Along (Agrees d) (path_of d) u u → AllLater d es → Along (Agrees d) (path_of d) (tree_before es u) u
+agree_before : (d : Entry) (es : List Entry) (u : Tree) → Along (Agrees d) (path_of d) u u → AllLater d es
+    → Along (Agrees d) (path_of d) (tree_before es u) u
 agree_before d [] u h later = h
 agree_before d (e ∷ es) u h later =
-    later_kept (Agrees d) (MayGoOn d) (change_of e) (agrees_kept d (change_of e)) (path_of d) (path_of e) (tree_before es u) u (agree_before d es u h later.1) later.0
+    later_kept (Agrees d) (MayGoOn d) (change_of e) (agrees_kept d (change_of e)) (path_of d) (path_of e)
+    (tree_before es u) u (agree_before d es u h later.1) later.0
 
 -- Together they tell how the tree differs from the one before them.
 pub all_told : (es : List Entry) (u : Tree) → AreTold u es → differences [] (tree_before es u) u ≡ flat_map (told u) es
@@ -113,5 +122,6 @@ all_told [] u h = differences_same [] u
 all_told (e ∷ es) u h =
     let w = h.1.0 in
     let agree = agree_before e es u (along_itself (Agrees e) (agrees_itself e) (path_of e) u w h.1.1) h.0 in
-    change_differs (change_of e) (told_at e) (Agrees e) (told_at_end e) [] (path_of e) (tree_before es u) u w agree h.1.1
+    change_differs (change_of e) (told_at e) (Agrees e) (told_at_end e) [] (path_of e) (tree_before es u) u w
+    agree h.1.1
     ∙ (λ k. option_map_or (told_at e (path_of e)) (sym h.1.1 k) [] ++ all_told es u h.2 k)

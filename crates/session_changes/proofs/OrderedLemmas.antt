@@ -31,7 +31,8 @@ later_part : (p q : List ℕ) → (slice_cmp nat_cmp p q ≡ Greater → ⊥) �
 later_part [] q le never = absurd (never (q, refl))
 later_part (i ∷ p) [] le never = absurd (le refl)
 later_part (i ∷ p) (j ∷ q) le never =
-    elim (nat_cmp i j) as (λ r. nat_cmp i j ≡ r → (ordering_then r (slice_cmp nat_cmp p q) ≡ Greater → ⊥) → (i < j) ⊎ ((i ≡ j) × Later ⊥ p q)) [
+    elim (nat_cmp i j) as (λ r.
+    nat_cmp i j ≡ r → (ordering_then r (slice_cmp nat_cmp p q) ≡ Greater → ⊥) → (i < j) ⊎ ((i ≡ j) × Later ⊥ p q)) [
       | Less ↦ λ e h. inl (nat_less i j e)
       | Equal ↦ λ e h.
           let same = nat_equal i j e in
@@ -44,7 +45,8 @@ later_notes [] [] le never = absurd (never refl)
 later_notes [] (j ∷ q) le never = tt
 later_notes (i ∷ p) [] le never = absurd (le refl)
 later_notes (i ∷ p) (j ∷ q) le never =
-    elim (nat_cmp i j) as (λ r. nat_cmp i j ≡ r → (ordering_then r (slice_cmp nat_cmp p q) ≡ Greater → ⊥) → (i < j) ⊎ ((i ≡ j) × Later (Unit {0}) p q)) [
+    elim (nat_cmp i j) as (λ r. nat_cmp i j
+    ≡ r → (ordering_then r (slice_cmp nat_cmp p q) ≡ Greater → ⊥) → (i < j) ⊎ ((i ≡ j) × Later (Unit {0}) p q)) [
       | Less ↦ λ e h. inl (nat_less i j e)
       | Equal ↦ λ e h.
           let same = nat_equal i j e in
@@ -61,7 +63,8 @@ pub record NotAfter (n p : List ℕ) (e : Entry) (m q : List ℕ) (d : Entry) : 
   pub paths : is_of_text e ≡ is_of_text d → n ≡ m → slice_cmp nat_cmp p q ≡ Greater → ⊥
 
 -- one name before another, or the same
-by_name : (n m : List ℕ) (P : Type 0) → (slice_cmp nat_cmp n m ≡ Greater → ⊥) → (slice_cmp nat_cmp n m ≡ Less → P) → (n ≡ m → P) → P
+by_name : (n m : List ℕ) (P : Type 0)
+    → (slice_cmp nat_cmp n m ≡ Greater → ⊥) → (slice_cmp nat_cmp n m ≡ Less → P) → (n ≡ m → P) → P
 by_name n m P le less same =
     elim (slice_cmp nat_cmp n m) as (λ r. slice_cmp nat_cmp n m ≡ r → P) [
       | Less ↦ λ e. less e
@@ -70,25 +73,36 @@ by_name n m P le less same =
     ] refl
 
 module _ (s : Store) (n m : List ℕ) where
-  pub comes : (e d : Entry) → IsNamed s n e → IsNamed s m d → EntriesAreApart e d → NotAfter n (path_of e) e m (path_of d) d → Comes n e m d
-  comes (slot_tree i o) (slot_tree j x) f g apart le = by_name n m _ (le.names refl) (λ h. h) (λ h. absurd (apart.0 (same_slot s n m i j f g h)))
-  comes (slot_tree i o) (subterm j q x) f g apart le = by_name n m _ (le.names refl) (λ h. h) (λ h. absurd (apart.1 (sym (same_slot s n m i j f g h))))
-  comes (slot_tree i o) (subterm_annotations j q x) f g apart le = by_name n m _ (le.names refl) (λ h. h) (λ h. absurd (apart.1 (sym (same_slot s n m i j f g h))))
+  pub comes : (e d : Entry) → IsNamed s n e → IsNamed s m d → EntriesAreApart e d
+      → NotAfter n (path_of e) e m (path_of d) d → Comes n e m d
+  comes (slot_tree i o) (slot_tree j x) f g apart le =
+      by_name n m _ (le.names refl) (λ h. h) (λ h. absurd (apart.0 (same_slot s n m i j f g h)))
+  comes (slot_tree i o) (subterm j q x) f g apart le =
+      by_name n m _ (le.names refl) (λ h. h) (λ h. absurd (apart.1 (sym (same_slot s n m i j f g h))))
+  comes (slot_tree i o) (subterm_annotations j q x) f g apart le =
+      by_name n m _ (le.names refl) (λ h. h) (λ h. absurd (apart.1 (sym (same_slot s n m i j f g h))))
   comes (slot_tree i o) (slot_text j y) f g apart le = tt
-  comes (subterm i p t) (slot_tree j x) f g apart le = by_name n m _ (le.names refl) (λ h. h) (λ h. absurd (apart.0 (same_slot s n m i j f g h)))
+  comes (subterm i p t) (slot_tree j x) f g apart le =
+      by_name n m _ (le.names refl) (λ h. h) (λ h. absurd (apart.0 (same_slot s n m i j f g h)))
   comes (subterm i p t) (subterm j q x) f g apart le =
-      by_name n m _ (le.names refl) (λ h. inl h) (λ h. inr (h, later_part p q (le.paths refl h) (λ w. apart.1 (sym (same_slot s n m i j f g h), w))))
+      by_name n m _ (le.names refl) (λ h. inl h)
+      (λ h. inr (h, later_part p q (le.paths refl h) (λ w. apart.1 (sym (same_slot s n m i j f g h), w))))
   comes (subterm i p t) (subterm_annotations j q x) f g apart le =
-      by_name n m _ (le.names refl) (λ h. inl h) (λ h. inr (h, later_part p q (le.paths refl h) (λ w. apart.1 (sym (same_slot s n m i j f g h), w))))
+      by_name n m _ (le.names refl) (λ h. inl h)
+      (λ h. inr (h, later_part p q (le.paths refl h) (λ w. apart.1 (sym (same_slot s n m i j f g h), w))))
   comes (subterm i p t) (slot_text j y) f g apart le = tt
-  comes (subterm_annotations i p t) (slot_tree j x) f g apart le = by_name n m _ (le.names refl) (λ h. h) (λ h. absurd (apart.0 (same_slot s n m i j f g h)))
+  comes (subterm_annotations i p t) (slot_tree j x) f g apart le =
+      by_name n m _ (le.names refl) (λ h. h) (λ h. absurd (apart.0 (same_slot s n m i j f g h)))
   comes (subterm_annotations i p t) (subterm j q x) f g apart le =
       by_name n m _ (le.names refl) (λ h. inl h)
-      (λ h. inr (h, later_notes p q (le.paths refl h) (λ e. apart.0 (same_slot s n m i j f g h, ([], e ∙ sym (append-nil q))))))
+      (λ h. inr
+      (h, later_notes p q (le.paths refl h) (λ e. apart.0 (same_slot s n m i j f g h, ([], e ∙ sym (append-nil q))))))
   comes (subterm_annotations i p t) (subterm_annotations j q x) f g apart le =
-      by_name n m _ (le.names refl) (λ h. inl h) (λ h. inr (h, later_notes p q (le.paths refl h) (λ e. apart.0 (same_slot s n m i j f g h, e))))
+      by_name n m _ (le.names refl) (λ h. inl h)
+      (λ h. inr (h, later_notes p q (le.paths refl h) (λ e. apart.0 (same_slot s n m i j f g h, e))))
   comes (subterm_annotations i p t) (slot_text j y) f g apart le = tt
   comes (slot_text i y) (slot_tree j x) f g apart le = absurd (le.kinds refl refl)
   comes (slot_text i y) (subterm j q x) f g apart le = absurd (le.kinds refl refl)
   comes (slot_text i y) (subterm_annotations j q x) f g apart le = absurd (le.kinds refl refl)
-  comes (slot_text i y) (slot_text j z) f g apart le = by_name n m _ (le.names refl) (λ h. h) (λ h. absurd (apart.0 (same_text_slot s n m i j f g h)))
+  comes (slot_text i y) (slot_text j z) f g apart le =
+      by_name n m _ (le.names refl) (λ h. h) (λ h. absurd (apart.0 (same_text_slot s n m i j f g h)))

@@ -17,12 +17,15 @@ use Rattle.session_changes.proofs.DifferenceLemmas.{trees_same, as_many_by, diff
 
 -- a node that is changed inside
 pub node_differs : (path : List ℕ) (cs : Changes) (t : Tree)
-    → differences path (changed (inside cs) t) t ≡ differences_from path 0 (of_list (changed_all cs (children t))) (of_list (children t))
+    → differences path (changed (inside cs) t) t
+    ≡ differences_from path 0 (of_list (changed_all cs (children t))) (of_list (children t))
 node_differs path cs (integer z ns) =
-    differences_same path (integer z ns) ∙ ap (λ us. differences_from path 0 (of_list us) none) (sym (changed_nowhere cs))
+    differences_same path (integer z ns)
+    ∙ ap (λ us. differences_from path 0 (of_list us) none) (sym (changed_nowhere cs))
 node_differs path cs (branch h us ns) =
     let vs = changed_all cs (to_list us) in
-    let count : length (to_list (of_list vs)) ≡ length (to_list us) = ap length (to_list-of_list vs) ∙ length-changed (to_list us) cs in
+    let count : length (to_list (of_list vs)) ≡ length (to_list us) = ap length (to_list-of_list vs)
+    ∙ length-changed (to_list us) cs in
     rw (head-self h, as_many_by (of_list vs) us count, trees_same ns)
     (ap (differences_from path 0 (of_list vs)) (sym (of_list-to_list us)))
 
@@ -30,33 +33,41 @@ node_differs path cs (branch h us ns) =
 
 -- nothing is there any more
 pub past_the_end : (path : List ℕ) (at : ℕ) (items : List Item) → differences_of path at items [] ≡ []
-past_the_end path at items = ap (λ us. differences_from path at (of_list us) none) (changed_nowhere (items_changes items))
+past_the_end path at items =
+    ap (λ us. differences_from path at (of_list us) none) (changed_nowhere (items_changes items))
 
 changed_beyond : (path : List ℕ) (at n : ℕ) (cs : Changes) (us : List Tree) → length us ≤ n
     → differences_from path at (of_list (changed_all (after_left n cs) us)) (of_list us) ≡ []
-changed_beyond path at n cs [] h = ap (λ us. differences_from path at (of_list us) none) (changed_nowhere (after_left n cs))
+changed_beyond path at n cs [] h =
+    ap (λ us. differences_from path at (of_list us) none) (changed_nowhere (after_left n cs))
 changed_beyond path at zero cs (u ∷ us) h = absurd (omega (arith, h))
 changed_beyond path at (suc n) cs (u ∷ us) h =
-    ap (λ l. l ++ differences_from path (at + 1) (of_list (changed_all (after_left n cs) us)) (of_list us)) (differences_same (path ++ at ∷ []) u)
+    ap (λ l. l ++ differences_from path (at + 1) (of_list (changed_all (after_left n cs) us)) (of_list us))
+    (differences_same (path ++ at ∷ []) u)
     ∙ changed_beyond path (at + 1) n cs us (omega (arith, h))
 
 -- the place of the first item isn't there, nor are those of the others
-pub item_missing : (path : List ℕ) (at : ℕ) (x : Item) (xs : List Item) (us : List Tree) → length us ≤ x.0 → differences_of path at (x ∷ xs) us ≡ []
+pub item_missing : (path : List ℕ) (at : ℕ) (x : Item) (xs : List Item) (us : List Tree)
+    → length us ≤ x.0 → differences_of path at (x ∷ xs) us ≡ []
 item_missing path at x xs us h = changed_beyond path at x.0 (and_then x.1 (items_changes xs)) us h
 
 changed_at : (path : List ℕ) (at n : ℕ) (c : Change) (cs : Changes) (us : List Tree) (d : Tree) → n < length us
     → differences_from path at (of_list (changed_all (after_left n (and_then c cs)) us)) (of_list us)
-    ≡ differences (path ++ (at + n) ∷ []) (changed c (get_or us n d)) (get_or us n d) ++ differences_from path (at + n + 1) (of_list (changed_all cs (drop (n + 1) us))) (of_list (drop (n + 1) us))
+    ≡ differences (path ++ (at + n) ∷ []) (changed c (get_or us n d)) (get_or us n d)
+    ++ differences_from path (at + n + 1) (of_list (changed_all cs (drop (n + 1) us))) (of_list (drop (n + 1) us))
 changed_at path at n c cs [] d h = absurd (omega (arith, h))
 changed_at path at zero c cs (u ∷ us) d h =
     let here : at ≡ at + 0 = omega arith in
-    λ k. differences (path ++ here k ∷ []) (changed c u) u ++ differences_from path (here k + 1) (of_list (changed_all cs us)) (of_list us)
+    λ k. differences (path ++ here k ∷ []) (changed c u) u
+    ++ differences_from path (here k + 1) (of_list (changed_all cs us)) (of_list us)
 changed_at path at (suc n) c cs (u ∷ us) d h =
     let here : at + 1 + n ≡ at + suc n = omega arith in
     let rest : drop (n + 1) us ≡ drop (suc n + 1) (u ∷ us) = ap (λ k. drop k (u ∷ us)) (one_later n) in
-    ap (λ l. l ++ differences_from path (at + 1) (of_list (changed_all (after_left n (and_then c cs)) us)) (of_list us)) (differences_same (path ++ at ∷ []) u)
+    ap (λ l. l ++ differences_from path (at + 1) (of_list (changed_all (after_left n (and_then c cs)) us)) (of_list us))
+    (differences_same (path ++ at ∷ []) u)
     ∙ changed_at path (at + 1) n c cs us d (omega (arith, h))
-    ∙ (λ k. differences (path ++ here k ∷ []) (changed c (get_or us n d)) (get_or us n d) ++ differences_from path (here k + 1) (of_list (changed_all cs (rest k))) (of_list (rest k)))
+    ∙ (λ k. differences (path ++ here k ∷ []) (changed c (get_or us n d)) (get_or us n d)
+    ++ differences_from path (here k + 1) (of_list (changed_all cs (rest k))) (of_list (rest k)))
   where
     one_later : (n : ℕ) → suc (n + 1) ≡ suc n + 1
     one_later n = omega arith
@@ -64,7 +75,8 @@ changed_at path at (suc n) c cs (u ∷ us) d h =
 -- The place of the first item is there.
 pub item_there : (path : List ℕ) (at : ℕ) (x : Item) (xs : List Item) (us : List Tree) (d : Tree) → x.0 < length us
     → differences_of path at (x ∷ xs) us
-    ≡ differences (path ++ (at + x.0) ∷ []) (changed x.1 (get_or us x.0 d)) (get_or us x.0 d) ++ differences_of path (at + x.0 + 1) xs (drop (x.0 + 1) us)
+    ≡ differences (path ++ (at + x.0) ∷ []) (changed x.1 (get_or us x.0 d)) (get_or us x.0 d)
+    ++ differences_of path (at + x.0 + 1) xs (drop (x.0 + 1) us)
 item_there path at x xs us d h = changed_at path at x.0 x.1 (items_changes xs) us d h
 
 -- ---- the items of a node
@@ -112,26 +124,34 @@ pub item_read : (old new : List Item) (skipped : ℕ) (next : PatchItem) → IsN
 item_read old new skipped (Term t) h = (omega arith, h)
 item_read old new skipped (Node kids) h = (h.1, h.2)
 
-pub less_to_read : (old new : List Item) (skipped : ℕ) (next : PatchItem) → IsNextItem old (Some (skipped, next)) new → items_weight new + 1 ≡ items_weight old
+pub less_to_read : (old new : List Item) (skipped : ℕ) (next : PatchItem) → IsNextItem old (Some (skipped, next)) new
+    → items_weight new + 1 ≡ items_weight old
 less_to_read old new skipped (Term t) h = rw h (omega arith)
-less_to_read old new skipped (Node kids) h = rw h.2 (omega (arith, weights-items (take kids new), weight-parts kids new))
+less_to_read old new skipped (Node kids) h =
+    rw h.2 (omega (arith, weights-items (take kids new), weight-parts kids new))
 
 pub weight-left : (k : ℕ) (xs : List Item) → items_weight (drop k xs) ≤ items_weight xs
 weight-left k xs = omega (arith, weight-parts k xs)
 
 -- with nothing to read nothing changed
-pub nothing_read : (path : List ℕ) (items : List Item) (t : Tree) → items ≡ [] → differences path (changed (first_change items) t) t ≡ []
+pub nothing_read : (path : List ℕ) (items : List Item) (t : Tree)
+    → items ≡ [] → differences path (changed (first_change items) t) t ≡ []
 nothing_read path items t e =
-    ap (λ xs. differences path (changed (first_change xs) t) t) e ∙ node_differs path no_more t ∙ from_same path 0 (of_list (children t))
+    ap (λ xs. differences path (changed (first_change xs) t) t) e ∙ node_differs path no_more t
+    ∙ from_same path 0 (of_list (children t))
 
 -- the items from number k on, after one was read
-pub items_left : (items old new : List Item) (k kids skipped : ℕ) (next : PatchItem) → k < kids → drop k items ≡ old → IsNextItem old (Some (skipped, next)) new
-    → (drop k (take kids items) ≡ (skipped, change_of next new) ∷ drop (k + 1) (take kids items)) × (drop (k + 1) items ≡ drop (kids_of next) new)
+pub items_left : (items old new : List Item) (k kids skipped : ℕ) (next : PatchItem)
+    → k < kids → drop k items ≡ old → IsNextItem old (Some (skipped, next)) new
+    → (drop k (take kids items) ≡ (skipped, change_of next new) ∷ drop (k + 1) (take kids items))
+    × (drop (k + 1) items ≡ drop (kids_of next) new)
 items_left items old new k kids skipped next h e read =
-    next_item items (drop (kids_of next) new) (skipped, change_of next new) k kids h (e ∙ (item_read old new skipped next read).1)
+    next_item items (drop (kids_of next) new) (skipped, change_of next new) k kids h
+    (e ∙ (item_read old new skipped next read).1)
 
 -- the first item is for a place that isn't there
-pub place_missing : (path : List ℕ) (at n : ℕ) (x : Item) (items rest : List Item) (us : List Tree) → items ≡ x ∷ rest → length us - at ≤ x.0 → length us ≤ n
+pub place_missing : (path : List ℕ) (at n : ℕ) (x : Item) (items rest : List Item) (us : List Tree)
+    → items ≡ x ∷ rest → length us - at ≤ x.0 → length us ≤ n
     → differences_of path at items (drop at us) ≡ differences_of path n rest (drop n us)
 place_missing path at n x items rest us e h g =
     ap (λ xs. differences_of path at xs (drop at us)) e
@@ -139,24 +159,31 @@ place_missing path at n x items rest us e h g =
     ∙ sym (ap (differences_of path n rest) (drop_all n us g) ∙ past_the_end path n rest)
 
 -- or for one that is there
-pub place_there : (path : List ℕ) (at : ℕ) (x : Item) (items rest : List Item) (us : List Tree) (u : Tree) → items ≡ x ∷ rest → at + x.0 < length us → u ≡ get_or us (at + x.0) u
+pub place_there : (path : List ℕ) (at : ℕ) (x : Item) (items rest : List Item) (us : List Tree) (u : Tree)
+    → items ≡ x ∷ rest → at + x.0 < length us → u ≡ get_or us (at + x.0) u
     → differences_of path at items (drop at us)
-    ≡ differences (path ++ (at + x.0) ∷ []) (changed x.1 u) u ++ differences_of path (at + x.0 + 1) rest (drop (at + x.0 + 1) us)
+    ≡ differences (path ++ (at + x.0) ∷ []) (changed x.1 u) u
+    ++ differences_of path (at + x.0 + 1) rest (drop (at + x.0 + 1) us)
 place_there path at x items rest us u e h is =
     let here : u ≡ get_or (drop at us) x.0 u = is ∙ sym (get_or-drop at us x.0 u) in
     let far : at + (x.0 + 1) ≡ at + x.0 + 1 = omega arith in
-    let after : drop (x.0 + 1) (drop at us) ≡ drop (at + x.0 + 1) us = drop-drop (x.0 + 1) at us ∙ ap (λ n. drop n us) far in
+    let after : drop (x.0 + 1) (drop at us) ≡ drop (at + x.0 + 1) us = drop-drop (x.0 + 1) at us
+    ∙ ap (λ n. drop n us) far in
     ap (λ xs. differences_of path at xs (drop at us)) e
     ∙ item_there path at x rest (drop at us) u (omega (arith, h, length-drop at us))
-    ∙ (λ k. differences (path ++ (at + x.0) ∷ []) (changed x.1 (sym here k)) (sym here k) ++ differences_of path (at + x.0 + 1) rest (after k))
+    ∙ (λ k. differences (path ++ (at + x.0) ∷ []) (changed x.1 (sym here k)) (sym here k)
+    ++ differences_of path (at + x.0 + 1) rest (after k))
 
 -- nothing is left to read
-pub all_read : (path : List ℕ) (at k kids : ℕ) (items : List Item) (us : List Tree) → kids ≤ k → differences_of path at (drop k (take kids items)) us ≡ []
+pub all_read : (path : List ℕ) (at k kids : ℕ) (items : List Item) (us : List Tree)
+    → kids ≤ k → differences_of path at (drop k (take kids items)) us ≡ []
 all_read path at k kids items us h =
-    ap (λ xs. differences_of path at xs us) (drop_all k (take kids items) (omega (arith, h, length-take kids items))) ∙ from_same path at (of_list us)
+    ap (λ xs. differences_of path at xs us) (drop_all k (take kids items) (omega (arith, h, length-take kids items)))
+    ∙ from_same path at (of_list us)
 
 -- a node was read
-pub node_read : (path : List ℕ) (next : PatchItem) (kids : ℕ) (items : List Item) (us : List Tree) (t : Tree) → next ≡ Node kids → us ≡ children t
+pub node_read : (path : List ℕ) (next : PatchItem) (kids : ℕ) (items : List Item) (us : List Tree) (t : Tree)
+    → next ≡ Node kids → us ≡ children t
     → differences_of path 0 (take kids items) us ≡ differences path (changed (change_of next items) t) t
 node_read path next kids items us t is e =
     ap (differences_of path 0 (take kids items)) e

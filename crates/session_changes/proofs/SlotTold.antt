@@ -9,9 +9,11 @@ use Rattle.term_changes.specs.Entries.{Entry, slot_tree, subterm, subterm_annota
 use Rattle.term_changes.proofs.SlotLemmas.{length-with_content}
 use Rattle.session_changes.specs.inside.Told.{HasSlot, HaveSlots}
 
-content_within : (ss : Slots Tree) (i : ℕ) (p : List ℕ) → IsSome (option_and_then (λ t. at t p) (content ss i)) → i < length ss
+content_within : (ss : Slots Tree) (i : ℕ) (p : List ℕ) → IsSome (option_and_then (λ t. at t p) (content ss i))
+    → i < length ss
 content_within ss i p h =
-    elim (slice_get ss i) as (λ o. slice_get ss i ≡ o → IsSome (option_and_then (λ t. at t p) (option_and_then (λ s. s.1) o)) → i < length ss) [
+    elim (slice_get ss i) as (λ o.
+    slice_get ss i ≡ o → IsSome (option_and_then (λ t. at t p) (option_and_then (λ s. s.1) o)) → i < length ss) [
       | None ↦ λ e h. absurd (cc)
       | Some s ↦ λ e h. slice_get_within ss i s e
     ] refl h
@@ -25,7 +27,8 @@ place_slot (slot_text i x) s h = h
 tree_count : (e : Entry) (s : Store) → length (put e s).trees ≡ length s.trees
 tree_count (slot_tree i o) s = length-with_content s.trees i o
 tree_count (subterm i p u) s = length-with_content s.trees i (option_map (λ t. set_at t p u) (content s.trees i))
-tree_count (subterm_annotations i p us) s = length-with_content s.trees i (option_map (λ t. set_annotations_at t p us) (content s.trees i))
+tree_count (subterm_annotations i p us) s =
+    length-with_content s.trees i (option_map (λ t. set_annotations_at t p us) (content s.trees i))
 tree_count (slot_text i x) s = refl
 
 text_count_of : (e : Entry) (s : Store) → length (put e s).modules ≡ length s.modules

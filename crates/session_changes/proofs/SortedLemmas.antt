@@ -55,7 +55,8 @@ nothing_greater [] h = absurd (cc)
 nothing_greater (j ∷ q) h = absurd (cc)
 
 module _ (s : Store) (n m : List ℕ) where
-  by_paths : (e d : Entry) → IsNamed s n e → IsNamed s m d → EntriesAreApart e d → KeyedBefore n e m d → is_of_text e ≡ is_of_text d → n ≡ m
+  by_paths : (e d : Entry) → IsNamed s n e → IsNamed s m d → EntriesAreApart e d → KeyedBefore n e m d
+      → is_of_text e ≡ is_of_text d → n ≡ m
       → slice_cmp nat_cmp (path_of e) (path_of d) ≡ Greater → ⊥
   by_paths (slot_tree i o) d f g apart le kind same h = nothing_greater (path_of d) h
   by_paths (slot_text i x) d f g apart le kind same h = nothing_greater (path_of d) h
@@ -68,7 +69,8 @@ module _ (s : Store) (n m : List ℕ) where
   by_paths (subterm_annotations i p o) (subterm_annotations j q x) f g apart le kind same h = le.paths tt tt same h
   by_paths (subterm_annotations i p o) (slot_text j y) f g apart le kind same h = absurd (cc)
 
-  not_after : (e d : Entry) → IsNamed s n e → IsNamed s m d → EntriesAreApart e d → KeyedBefore n e m d → NotAfter n (path_of e) e m (path_of d) d
+  not_after : (e d : Entry) → IsNamed s n e → IsNamed s m d → EntriesAreApart e d → KeyedBefore n e m d
+      → NotAfter n (path_of e) e m (path_of d) d
   not_after e d f g apart le = record { kinds = le.kinds; names = le.names; paths = by_paths e d f g apart le }
 
 -- each comes before the later ones
@@ -76,29 +78,37 @@ abbrev pub AreKeyed : List (List ℕ × Entry) → Type 0
 AreKeyed [] = Unit {0}
 AreKeyed (p ∷ ps) = AllAs (KeyedBefore p.0 p.1) ps × AreKeyed ps
 
-one_in_order : (s : Store) (n : List ℕ) (e : Entry) → IsNamed s n e → (ps : List (List ℕ × Entry)) → AllAs (IsNamed s) ps → ApartFrom e (those ps)
+one_in_order : (s : Store) (n : List ℕ) (e : Entry) → IsNamed s n e
+    → (ps : List (List ℕ × Entry)) → AllAs (IsNamed s) ps → ApartFrom e (those ps)
     → AllAs (KeyedBefore n e) ps → AllAs (Comes n e) ps
 one_in_order s n e f [] named apart le = tt
-one_in_order s n e f (p ∷ ps) named apart le =
-    (comes s n p.0 e p.1 f named.0 apart.0 (not_after s n p.0 e p.1 f named.0 apart.0 le.0), one_in_order s n e f ps named.1 apart.1 le.1)
+one_in_order s n e f (p ∷ ps) named apart le = (
+  comes s n p.0 e p.1 f named.0 apart.0 (not_after s n p.0 e p.1 f named.0 apart.0 le.0),
+  one_in_order s n e f ps named.1 apart.1 le.1,
+)
 
-pub all_in_order : (s : Store) (ps : List (List ℕ × Entry)) → AllAs (IsNamed s) ps → AllApart (those ps) → AreKeyed ps → ComeInOrder ps
+pub all_in_order : (s : Store) (ps : List (List ℕ × Entry)) → AllAs (IsNamed s) ps → AllApart (those ps) → AreKeyed ps
+    → ComeInOrder ps
 all_in_order s [] named apart le = tt
 all_in_order s (p ∷ ps) named apart le =
     (one_in_order s p.0 p.1 named.0 ps named.1 apart.0 le.0, all_in_order s ps named.1 apart.1 le.1)
 
 -- ---- the whole
 
-module _ (asked : Option (List ℕ)) (s : Store) (trees_are : HaveDistinctLabels s.trees) (texts_are : HaveDistinctLabels s.modules) where
-  pub sorted_told : (log : List Entry) (ps qs : List (List ℕ × Entry)) → those ps ≡ log → AllAs (IsNamed s) ps → IsPermutation ps qs → AreKeyed qs → IsCompact log → Fits log s
+module _ (asked : Option (List ℕ)) (s : Store) (trees_are : HaveDistinctLabels s.trees)
+    (texts_are : HaveDistinctLabels s.modules) where
+  pub sorted_told : (log : List Entry) (ps qs : List (List ℕ × Entry)) → those ps ≡ log → AllAs (IsNamed s) ps
+      → IsPermutation ps qs → AreKeyed qs → IsCompact log → Fits log s
       → log_lines asked log s ≡ flat_map (asked_lines asked s) qs
   sorted_told log ps qs is named perm le compact fits =
       let named_too : AllAs (IsNamed s) qs =
       from_all (IsNamed s) qs (All-permutation (λ p. IsNamed s p.0 p.1) ps qs perm (all_at (IsNamed s) ps named)) in
-      let moved = permuted (those ps) (those qs) (subst IsCompact (sym is) compact) (IsPermutation-map (λ p. p.1) ps qs perm) in
+      let moved =
+      permuted (those ps) (those qs) (subst IsCompact (sym is) compact) (IsPermutation-map (λ p. p.1) ps qs perm) in
       let same : before log s ≡ before (those qs) s = ap (λ l. before l s) (sym is) ∙ sym (moved.1.0 s) in
       ap (λ x. changes_of asked (contents x) (contents s)) same
-      ∙ log_told asked s trees_are texts_are qs named_too (all_in_order s qs named_too moved.0 le) (moved.1.1 s (subst (λ l. Fits l s) (sym is) fits))
+      ∙ log_told asked s trees_are texts_are qs named_too (all_in_order s qs named_too moved.0 le)
+      (moved.1.1 s (subst (λ l. Fits l s) (sym is) fits))
 
 -- ---- by the keys
 
@@ -120,11 +130,13 @@ then_then Greater b c = refl
 
 -- what the keys say of two entries, of which the second doesn't come before the first
 pub by_keys : (n m p q : List ℕ) (e d : Entry) → (IsPart e → p ≡ path_of e) → (IsPart d → q ≡ path_of d)
-    → is_lt (ordering_then (ordering_then (bool_cmp (is_of_text d) (is_of_text e)) (slice_cmp nat_cmp m n)) (slice_cmp nat_cmp q p)) ≡ false → KeyedBefore n e m d
+    → is_lt (ordering_then (ordering_then (bool_cmp (is_of_text d) (is_of_text e)) (slice_cmp nat_cmp m n))
+    (slice_cmp nat_cmp q p)) ≡ false → KeyedBefore n e m d
 by_keys n m p q e d own own_too keys = record {
   kinds = not_less_kind (is_of_text e) (is_of_text d) (ordering_then (slice_cmp nat_cmp m n) (slice_cmp nat_cmp q p)) h;
   names = λ same greater. first_less greater (rest same);
-  paths = λ part part_too named greater. second_less named ((λ k. slice_cmp nat_cmp (own part k) (own_too part_too k)) ∙ greater) (rest (parts_alike e d part part_too));
+  paths = λ part part_too named greater. second_less named
+      ((λ k. slice_cmp nat_cmp (own part k) (own_too part_too k)) ∙ greater) (rest (parts_alike e d part part_too));
 }
   where
     parts_alike : (e d : Entry) → IsPart e → IsPart d → is_of_text e ≡ is_of_text d
@@ -139,21 +151,29 @@ by_keys n m p q e d own own_too keys = record {
     parts_alike (subterm_annotations i p o) (slot_text j y) a b = absurd b
     parts_alike (slot_text i x) d a b = absurd a
 
-    h : is_lt (ordering_then (bool_cmp (is_of_text d) (is_of_text e)) (ordering_then (slice_cmp nat_cmp m n) (slice_cmp nat_cmp q p))) ≡ false
-    h = ap is_lt (sym (then_then (bool_cmp (is_of_text d) (is_of_text e)) (slice_cmp nat_cmp m n) (slice_cmp nat_cmp q p))) ∙ keys
+    h : is_lt (ordering_then (bool_cmp (is_of_text d) (is_of_text e))
+        (ordering_then (slice_cmp nat_cmp m n) (slice_cmp nat_cmp q p))) ≡ false
+    h = ap is_lt
+        (sym (then_then (bool_cmp (is_of_text d) (is_of_text e)) (slice_cmp nat_cmp m n) (slice_cmp nat_cmp q p)))
+        ∙ keys
 
     rest : is_of_text e ≡ is_of_text d → is_lt (ordering_then (slice_cmp nat_cmp m n) (slice_cmp nat_cmp q p)) ≡ false
-    rest same = same_kind_rest (is_of_text e) (is_of_text d) (ordering_then (slice_cmp nat_cmp m n) (slice_cmp nat_cmp q p)) h same
+    rest same = same_kind_rest (is_of_text e) (is_of_text d)
+        (ordering_then (slice_cmp nat_cmp m n) (slice_cmp nat_cmp q p)) h same
 
     turned : (a b : List ℕ) → slice_cmp nat_cmp a b ≡ Greater → slice_cmp nat_cmp b a ≡ Less
     turned a b e = nat_list_cmp_total.antisymm b a ∙ ap ordering_reverse e
 
-    first_less : slice_cmp nat_cmp n m ≡ Greater → is_lt (ordering_then (slice_cmp nat_cmp m n) (slice_cmp nat_cmp q p)) ≡ false → ⊥
-    first_less e r = let never : true ≡ false = (λ k. is_lt (ordering_then (sym (turned n m e) k) (slice_cmp nat_cmp q p))) ∙ r in cc
+    first_less : slice_cmp nat_cmp n m ≡ Greater → is_lt (ordering_then (slice_cmp nat_cmp m n) (slice_cmp nat_cmp q p))
+        ≡ false → ⊥
+    first_less e r = let never : true ≡ false =
+        (λ k. is_lt (ordering_then (sym (turned n m e) k) (slice_cmp nat_cmp q p))) ∙ r in cc
 
-    second_less : n ≡ m → slice_cmp nat_cmp p q ≡ Greater → is_lt (ordering_then (slice_cmp nat_cmp m n) (slice_cmp nat_cmp q p)) ≡ false → ⊥
+    second_less : n ≡ m → slice_cmp nat_cmp p q
+        ≡ Greater → is_lt (ordering_then (slice_cmp nat_cmp m n) (slice_cmp nat_cmp q p)) ≡ false → ⊥
     second_less same e r =
-        let tied : slice_cmp nat_cmp m n ≡ Equal = equal_of (slice_cmp nat_cmp m n) (is_eq-slice_cmp m n ∙ (bytes_decides m n).1 (sym same)) in
+        let tied : slice_cmp nat_cmp m n ≡ Equal =
+        equal_of (slice_cmp nat_cmp m n) (is_eq-slice_cmp m n ∙ (bytes_decides m n).1 (sym same)) in
         let never : true ≡ false = (λ k. is_lt (ordering_then (sym tied k) (sym (turned p q e) k))) ∙ r in cc
 
 -- ---- a sorted list
@@ -163,25 +183,35 @@ module _ {X : Type 0} (name path : X → List ℕ) (entry : X → Entry) where
   -- whether one comes before another by its key
   abbrev pub key_less : X → X → Bool
   key_less x y =
-      is_lt (ordering_then (ordering_then (bool_cmp (is_of_text (entry x)) (is_of_text (entry y))) (slice_cmp nat_cmp (name x) (name y))) (slice_cmp nat_cmp (path x) (path y)))
+      is_lt (ordering_then (ordering_then (bool_cmp (is_of_text (entry x)) (is_of_text (entry y)))
+      (slice_cmp nat_cmp (name x) (name y))) (slice_cmp nat_cmp (path x) (path y)))
 
   key_order : IsStrictWeakOrder key_less
   key_order =
-      ranks_by (then_total (then_total (on_total (λ x. is_of_text (entry x)) bool_cmp_total) (on_total name nat_list_cmp_total)) (on_total path nat_list_cmp_total)) (λ x. x)
+      ranks_by
+      (then_total (then_total (on_total (λ x. is_of_text (entry x)) bool_cmp_total) (on_total name nat_list_cmp_total))
+      (on_total path nat_list_cmp_total)) (λ x. x)
 
   abbrev pub pairs : List X → List (List ℕ × Entry)
   pairs xs = map (λ x. (name x, entry x)) xs
 
   module _ (own : (x : X) → IsPart (entry x) → path x ≡ path_of (entry x)) where
-    first_keyed : (x : X) (xs : List X) → ((j : ℕ) (d : X) → j < length xs → key_less (get_or xs j d) x ≡ false) → AllAs (KeyedBefore (name x) (entry x)) (pairs xs)
+    first_keyed : (x : X) (xs : List X) → ((j : ℕ) (d : X) → j < length xs → key_less (get_or xs j d) x ≡ false)
+        → AllAs (KeyedBefore (name x) (entry x)) (pairs xs)
     first_keyed x [] h = tt
-    first_keyed x (y ∷ ys) h =
-        (by_keys (name x) (name y) (path x) (path y) (entry x) (entry y) (own x) (own y) (h 0 x (omega arith)), first_keyed x ys (λ j d l. h (suc j) d (omega (arith, l))))
+    first_keyed x (y ∷ ys) h = (
+      by_keys (name x) (name y) (path x) (path y) (entry x) (entry y) (own x) (own y) (h 0 x (omega arith)),
+      first_keyed x ys (λ j d l. h (suc j) d (omega (arith, l))),
+    )
 
-    all_keyed : (xs : List X) → ((i j : ℕ) (d : X) → i ≤ j → j < length xs → key_less (get_or xs j d) (get_or xs i d) ≡ false) → AreKeyed (pairs xs)
+    all_keyed : (xs : List X)
+        → ((i j : ℕ) (d : X) → i ≤ j → j < length xs → key_less (get_or xs j d) (get_or xs i d) ≡ false)
+        → AreKeyed (pairs xs)
     all_keyed [] h = tt
-    all_keyed (x ∷ xs) h =
-        (first_keyed x xs (λ j d l. h 0 (suc j) d (omega arith) (omega (arith, l))), all_keyed xs (λ i j d a b. h (suc i) (suc j) d (omega (arith, a)) (omega (arith, b))))
+    all_keyed (x ∷ xs) h = (
+      first_keyed x xs (λ j d l. h 0 (suc j) d (omega arith) (omega (arith, l))),
+      all_keyed xs (λ i j d a b. h (suc i) (suc j) d (omega (arith, a)) (omega (arith, b))),
+    )
 
     pub sorted_keyed : (xs : List X) → IsSortedBy key_less xs → AreKeyed (pairs xs)
     sorted_keyed xs up = all_keyed xs (sorted_far key_less key_order xs up)

@@ -39,11 +39,14 @@ module _ (meaning : Meaning) (ps : List Signature) (t : Logged) (name path text 
   abbrev Comes : ActResult → Type 0
   Comes = ComesTo act now
 
-  apply_unresolved : (refusal : Refusal) → (refusal ≡ Memory) ⊎ IsUnresolved name path text now refusal → Performs {X = Unit {0}} act now now (Err refusal)
+  apply_unresolved : (refusal : Refusal) → (refusal ≡ Memory) ⊎ IsUnresolved name path text now refusal
+      → Performs {X = Unit {0}} act now now (Err refusal)
   apply_unresolved refusal (inl memory) = refuses act now now refusal (inl memory) refl
-  apply_unresolved refusal (inr before) = refuses act now now refusal (inr (unresolved_before ps t name path text (AppliesAt meaning name path steps now) refusal before)) refl
+  apply_unresolved refusal (inr before) = refuses act now now refusal
+      (inr (unresolved_before ps t name path text (AppliesAt meaning name path steps now) refusal before)) refl
 
-  module _ (cached : Option Program) (i : ℕ) (whole : Resolved) (r : ResolvesTo ps t name path text cached i whole) (lent : Program) (is : Some lent ≡ cached) where
+  module _ (cached : Option Program) (i : ℕ) (whole : Resolved) (r : ResolvesTo ps t name path text cached i whole)
+      (lent : Program) (is : Some lent ≡ cached) where
     abbrev here : Located
     here = the_place t name path i r.there
 
@@ -57,32 +60,46 @@ module _ (meaning : Meaning) (ps : List Signature) (t : Logged) (name path text 
     in_slot : Ends ≡ ending
     in_slot =
         let same : lent ≡ r.program = same_program lent r.program (is ∙ r.cache) in
-        ap (λ (p : Program). applied_in (world_in meaning p ps t.limits.max_terms) t.store.trees i path whole steps) same
-        ∙ ap (λ (o : Option Tree). option_map_or (applied (world_in meaning r.program ps t.limits.max_terms) path whole steps) o fails) r.there.is.held
+        ap
+        (λ (p : Program). applied_in (world_in meaning p ps t.limits.max_terms) t.store.trees i path whole steps) same
+        ∙ ap (λ (o : Option Tree). option_map_or
+        (applied (world_in meaning r.program ps t.limits.max_terms) path whole steps) o fails) r.there.is.held
 
     ends : (outcome : ActResult) → AppliesAt meaning name path steps now here r.program whole outcome → Comes outcome
-    ends outcome p = resolved_then ps t name path text (AppliesAt meaning name path steps now) cached i whole r outcome p
+    ends outcome p =
+        resolved_then ps t name path text (AppliesAt meaning name path steps now) cached i whole r outcome p
 
     apply_fails : (refusal : Refusal) → given_by Ends ≡ Err refusal → Comes (Err refusal)
-    apply_fails refusal none = ends (Err refusal) (stopped (given_by ending) (λ tree. ChangesTo (with_tree (contents t.store) name tree) now) refusal (sym (ap given_by in_slot) ∙ none))
+    apply_fails refusal none = ends (Err refusal) (stopped (given_by ending)
+        (λ tree. ChangesTo (with_tree (contents t.store) name tree) now) refusal (sym (ap given_by in_slot) ∙ none))
 
-    apply_done : (n : Logged) → GivesIn Ends i t.store n.store → unfolded ps n ≡ changed (contents n.store) now → Comes (Ok (unfolded ps n))
+    apply_done : (n : Logged) → GivesIn Ends i t.store n.store → unfolded ps n ≡ changed (contents n.store) now
+        → Comes (Ok (unfolded ps n))
     apply_done n gives done =
-        let then : contents n.store ≡ with_tree (contents t.store) name gives.tree = ap contents gives.stands ∙ tree_put t.store name i gives.tree r.there.is.named in
+        let then : contents n.store ≡ with_tree (contents t.store) name gives.tree = ap contents gives.stands
+        ∙ tree_put t.store name i gives.tree r.there.is.named in
         ends (Ok (unfolded ps n))
-        (passed (given_by ending) (λ tree. ChangesTo (with_tree (contents t.store) name tree) now) gives.tree (Ok (unfolded ps n)) (sym (ap given_by in_slot) ∙ gives.given)
+        (passed (given_by ending) (λ tree. ChangesTo (with_tree (contents t.store) name tree) now) gives.tree
+        (Ok (unfolded ps n)) (sym (ap given_by in_slot) ∙ gives.given)
         (ap Ok (done ∙ ap (λ (c : Contents). changed c now) then)))
 
   -- what it means that nothing is planned, and that what is planned was made
-  pub apply_refused : (refusal : Refusal) → (refusal ≡ Memory) ⊎ (IsUnresolved name path text now refusal ⊎ PlansNothing meaning ps t name path text steps refusal)
+  pub apply_refused : (refusal : Refusal) → (refusal ≡ Memory)
+      ⊎ (IsUnresolved name path text now refusal ⊎ PlansNothing meaning ps t name path text steps refusal)
       → Performs {X = Unit {0}} act now now (Err refusal)
   apply_refused refusal (inl memory) = apply_unresolved refusal (inl memory)
   apply_refused refusal (inr (inl before)) = apply_unresolved refusal (inr before)
-  apply_refused refusal (inr (inr p)) = refuses act now now refusal (inr (apply_fails (Some p.program) p.slot p.whole p.resolves p.program refl refusal p.ends)) refl
+  apply_refused refusal (inr (inr p)) = refuses act now now refusal
+      (inr (apply_fails (Some p.program) p.slot p.whole p.resolves p.program refl refusal p.ends)) refl
 
-  pub apply_performs : (i : ℕ) (entries : List Entry) (taken : ℕ) (p : PlansTo meaning ps t name path text steps i entries taken) (result : Result (Unit {0}) Refusal) (n : Logged)
-      → OnOk result (n.store ≡ after entries t.store) → OnOk result (Changes t n) → IfErr result (λ refusal. refusal ≡ Memory) → OnErr result (KeepsHistory t n) → Performs act now (unfolded ps n) result
+  pub apply_performs : (i : ℕ) (entries : List Entry) (taken : ℕ)
+      (p : PlansTo meaning ps t name path text steps i entries taken) (result : Result (Unit {0}) Refusal) (n : Logged)
+      → OnOk result (n.store ≡ after entries t.store) → OnOk result (Changes t n) → IfErr result
+      (λ refusal. refusal ≡ Memory) → OnErr result (KeepsHistory t n) → Performs act now (unfolded ps n) result
   apply_performs i entries taken p (Ok tt) n made done memory same =
-      let gives = foreseen_gives (world_in meaning p.program ps t.limits.max_terms) t.store i path p.whole steps entries taken p.foresees n.store made in
-      accepts act now (unfolded ps n) tt (apply_done (Some p.program) i p.whole p.resolves p.program refl n gives (done.made ps))
-  apply_performs i entries taken p (Err refusal) n made done memory same = refuses act now (unfolded ps n) refusal (inl memory) (same.same ps)
+      let gives = foreseen_gives (world_in meaning p.program ps t.limits.max_terms) t.store i path p.whole steps entries
+      taken p.foresees n.store made in
+      accepts act now (unfolded ps n) tt
+      (apply_done (Some p.program) i p.whole p.resolves p.program refl n gives (done.made ps))
+  apply_performs i entries taken p (Err refusal) n made done memory same =
+      refuses act now (unfolded ps n) refusal (inl memory) (same.same ps)

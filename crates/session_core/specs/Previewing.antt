@@ -29,7 +29,8 @@ AreThere tree (r ∷ rs) = (at tree r.path ≡ Some r.old) × AreThere tree rs
 
 -- It lists what applying would replace, as entries, and has the number of steps. What is there now is
 -- found in the tree.
-pub record ShowsPreview (meaning : Meaning) (name path : List ℕ) (b : ℕ) (text : List ℕ) (h : History) (preview : Preview) : Type 0 where
+pub record ShowsPreview (meaning : Meaning) (name path : List ℕ) (b : ℕ) (text : List ℕ) (h : History)
+    (preview : Preview) : Type 0 where
   pub shown : definition.Preview
   pub previews : Previews meaning name path b text h (Ok shown)
   pub plan : AllZip IsEntryFor preview.plan shown.replacements
@@ -40,7 +41,8 @@ pub record ShowsPreview (meaning : Meaning) (name path : List ℕ) (b : ℕ) (te
 
 -- What the answer to a preview says: it shows what applying would replace, or the refusal is that of
 -- applying, or want of memory.
-pub record AnswersPreview (meaning : Meaning) (name path : List ℕ) (b : ℕ) (text : List ℕ) (h : History) (result : Result Preview Refusal) : Type 0 where
+pub record AnswersPreview (meaning : Meaning) (name path : List ℕ) (b : ℕ) (text : List ℕ) (h : History)
+    (result : Result Preview Refusal) : Type 0 where
   pub ok : IfOk result (ShowsPreview meaning name path b text h)
   pub refused : IfErr result (λ refusal. (refusal ≡ Memory) ⊎ Previews meaning name path b text h (Err refusal))
 

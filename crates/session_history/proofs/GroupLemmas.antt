@@ -23,12 +23,14 @@ false_weaker : (b : Bool) (P Q : Type 0) → (P → Q) → OnFalse b P → OnFal
 false_weaker true P Q f h = tt
 false_weaker false P Q f h = f h
 
-still_current : (group : Option OpenGroup) (log new : List Entry) → length new ≤ length log → IsCurrent group log → IsCurrent group new
+still_current : (group : Option OpenGroup) (log new : List Entry) → length new ≤ length log → IsCurrent group log
+    → IsCurrent group new
 still_current None log new h c = no_longer log new h c
 still_current (Some g) log new h c = false_weaker g.changed (log ≡ []) (new ≡ []) (no_longer log new h) c
 
 -- Other entries that lead back to the same store, and are no more.
-module _ (t : Logged) (new : List Entry) (placed : IsPlaced t) (leads : (s : Store) → before new s ≡ before t.current s) (fits : (s : Store) → Fits t.current s → Fits new s) (count : length new ≤ length t.current) where
+module _ (t : Logged) (new : List Entry) (placed : IsPlaced t) (leads : (s : Store) → before new s ≡ before t.current s)
+    (fits : (s : Store) → Fits t.current s → Fits new s) (count : length new ≤ length t.current) where
   pub compacted_placed : IsPlaced (record t { current = new })
   compacted_placed = record {
     within = placed.within;
@@ -67,11 +69,14 @@ module _ (t : Logged) (placed : IsPlaced t) (outside : t.group ≡ None) where
     logs_are = ap (λ n. take n t.logs) (sym at) ∙ take_next q t.logs log is
 
     pub last_fits : Fits log t.store
-    last_fits = (FitBack-split (take q t.logs) log t.store (subst (λ s. FitBack (take q t.logs ++ log ∷ []) s) begins (subst (λ l. FitBack l (before t.current t.store)) logs_are placed.back))).1
+    last_fits =
+        (FitBack-split (take q t.logs) log t.store (subst (λ s. FitBack (take q t.logs ++ log ∷ []) s) begins
+        (subst (λ l. FitBack l (before t.current t.store)) logs_are placed.back))).1
 
     pub last_base : (ps : List Signature) → base_of (unfolded ps t) ≡ Ok (contents (before log t.store))
     last_base ps =
-        (λ k. option_map_or (λ (g : HistoryGroup). Ok g.begun) (option_map (λ g. record { begun = contents (before t.current t.store); changed = g.changed }) (outside k))
+        (λ k. option_map_or (λ (g : HistoryGroup). Ok g.begun)
+        (option_map (λ g. record { begun = contents (before t.current t.store); changed = g.changed }) (outside k))
         (ok_or (slice_get (past_of (logs_are k) (begins k)) 0) NoUndo))
         ∙ ap (λ l. ok_or (slice_get l 0) NoUndo) (past_of-append (take q t.logs) log t.store)
 
@@ -80,12 +85,15 @@ module _ (t : Logged) (placed : IsPlaced t) (outside : t.group ≡ None) where
 
   pub no_base : t.position ≡ 0 → (ps : List Signature) → base_of (unfolded ps t) ≡ Err NoUndo
   no_base none ps =
-      λ k. option_map_or (λ (g : HistoryGroup). Ok g.begun) (option_map (λ g. record { begun = contents (before t.current t.store); changed = g.changed }) (outside k))
+      λ k. option_map_or (λ (g : HistoryGroup). Ok g.begun)
+      (option_map (λ g. record { begun = contents (before t.current t.store); changed = g.changed }) (outside k))
       (ok_or (slice_get (past_of (take (none k) t.logs) (before t.current t.store)) 0) NoUndo)
 
-pub group_base : (t : Logged) (g : OpenGroup) → t.group ≡ Some g → (ps : List Signature) → base_of (unfolded ps t) ≡ Ok (contents (before t.current t.store))
+pub group_base : (t : Logged) (g : OpenGroup) → t.group ≡ Some g → (ps : List Signature)
+    → base_of (unfolded ps t) ≡ Ok (contents (before t.current t.store))
 group_base t g inside ps =
-    ap (λ o. option_map_or (λ (g : HistoryGroup). Ok g.begun) (option_map (λ g. record { begun = contents (before t.current t.store); changed = g.changed }) o)
+    ap (λ o. option_map_or (λ (g : HistoryGroup). Ok g.begun)
+    (option_map (λ g. record { begun = contents (before t.current t.store); changed = g.changed }) o)
     (ok_or (slice_get (past_of (take t.position t.logs) (before t.current t.store)) 0) NoUndo)) inside
 
 pub group_leads : (t : Logged) → IsPlaced t → (g : OpenGroup) → t.group ≡ Some g → LeadsToBase t.current t
@@ -93,6 +101,7 @@ group_leads t placed g inside = record { base = group_base t g inside; fits = pl
 
 -- ---- what an open group gives
 
-pub inside_group : (o : Option OpenGroup) (l log : List Entry) → Some log ≡ option_map (λ g. l) o → (g : OpenGroup) × (o ≡ Some g) × (log ≡ l)
+pub inside_group : (o : Option OpenGroup) (l log : List Entry) → Some log ≡ option_map (λ g. l) o
+    → (g : OpenGroup) × (o ≡ Some g) × (log ≡ l)
 inside_group None l log e = absurd (cc)
 inside_group (Some g) l log e = (g, refl, (let is : log ≡ l = cc in is))

@@ -50,7 +50,8 @@ apart_in_order (y ∷ e) x z order (inl a) (inr b) w =
     not_before_within (i ∷ z) r (inl h) = omega (arith, h)
     not_before_within (i ∷ z) r (inr h) = not_before_within z r h.1
 apart_in_order (y ∷ e) x z order (inr a) (inl b) w =
-    absurd (not_before_inner z w.0 (subst (λ l. IsBefore z l) w.1 (subst (λ l. IsBefore l x) b (is_before y.path x e order.0 a))))
+    absurd (not_before_inner z w.0
+    (subst (λ l. IsBefore z l) w.1 (subst (λ l. IsBefore l x) b (is_before y.path x e order.0 a))))
   where
     not_before_inner : (z r : List ℕ) → IsBefore z (z ++ r) → ⊥
     not_before_inner [] r h = absurd h
@@ -74,21 +75,25 @@ same_places ps qs e p q x is =
 
 -- ---- the same order
 
-same_paths : (ps qs : Edits) → AreInOrder ps → AreInOrder qs → ((x : List ℕ) → IsOf x ps → IsOf x qs) → ((x : List ℕ) → IsOf x qs → IsOf x ps) → paths ps ≡ paths qs
+same_paths : (ps qs : Edits) → AreInOrder ps → AreInOrder qs → ((x : List ℕ) → IsOf x ps → IsOf x qs)
+    → ((x : List ℕ) → IsOf x qs → IsOf x ps) → paths ps ≡ paths qs
 same_paths [] [] h g forth back = refl
 same_paths [] (q ∷ qs) h g forth back = absurd (back q.path (inl refl))
 same_paths (p ∷ ps) [] h g forth back = absurd (forth p.path (inl refl))
 same_paths (p ∷ ps) (q ∷ qs) h g forth back =
     let first : p.path ≡ q.path = heads (forth p.path (inl refl)) (back q.path (inl refl)) in
     let rest = same_paths ps qs h.1 g.1
-    (λ x is. after x (λ same. not_before_itself x (subst (λ l. IsBefore l x) (first ∙ same) (is_before p.path x ps h.0 is))) (forth x (inr is)))
-    (λ x is. after_p x (λ same. not_before_itself x (subst (λ l. IsBefore l x) (sym first ∙ same) (is_before q.path x qs g.0 is))) (back x (inr is))) in
+    (λ x is. after x (λ same.
+    not_before_itself x (subst (λ l. IsBefore l x) (first ∙ same) (is_before p.path x ps h.0 is))) (forth x (inr is)))
+    (λ x is. after_p x (λ same. not_before_itself x
+    (subst (λ l. IsBefore l x) (sym first ∙ same) (is_before q.path x qs g.0 is))) (back x (inr is))) in
     (λ i. first i ∷ rest i)
   where
     heads : (q.path ≡ p.path) ⊎ IsOf p.path qs → (p.path ≡ q.path) ⊎ IsOf q.path ps → p.path ≡ q.path
     heads (inl same) right = sym same
     heads (inr left) (inl same) = same
-    heads (inr left) (inr right) = absurd (before_not_after p.path q.path (is_before p.path q.path ps h.0 right) (is_before q.path p.path qs g.0 left))
+    heads (inr left) (inr right) = absurd
+        (before_not_after p.path q.path (is_before p.path q.path ps h.0 right) (is_before q.path p.path qs g.0 left))
 
     after : (x : List ℕ) → ((q.path ≡ x) → ⊥) → (q.path ≡ x) ⊎ IsOf x qs → IsOf x qs
     after x never (inl same) = absurd (never same)
@@ -110,12 +115,16 @@ same_replacement : (r s : Replacement) → r.path ≡ s.path → r.old ≡ s.old
 same_replacement r s path old new = λ i. record { path = path i; old = old i; new = new i }
 
 module _ (path : List ℕ) (before after : Tree) where
-  shown_same : (p q : List ℕ) (r s : Replacement) → p ≡ q → (r.path ≡ path ++ p) × (at before p ≡ Some r.old) × (at after p ≡ Some r.new) → (s.path ≡ path ++ q) × (at before q ≡ Some s.old) × (at after q ≡ Some s.new) → r ≡ s
+  shown_same : (p q : List ℕ) (r s : Replacement)
+      → p ≡ q → (r.path ≡ path ++ p) × (at before p ≡ Some r.old) × (at after p ≡ Some r.new)
+      → (s.path ≡ path ++ q) × (at before q ≡ Some s.old) × (at after q ≡ Some s.new) → r ≡ s
   shown_same p q r s e x y =
-      same_replacement r s (x.0 ∙ ap (λ l. path ++ l) e ∙ sym y.0) (same_tree r.old s.old (sym x.1 ∙ ap (at before) e ∙ y.1))
+      same_replacement r s (x.0 ∙ ap (λ l. path ++ l) e ∙ sym y.0)
+      (same_tree r.old s.old (sym x.1 ∙ ap (at before) e ∙ y.1))
       (same_tree r.new s.new (sym x.2 ∙ ap (at after) e ∙ y.2))
 
-  pub shown_one : (ps qs : Edits) (rs ss : List Replacement) → paths ps ≡ paths qs → AllZip (IsShown path before after) ps rs → AllZip (IsShown path before after) qs ss → rs ≡ ss
+  pub shown_one : (ps qs : Edits) (rs ss : List Replacement) → paths ps ≡ paths qs
+      → AllZip (IsShown path before after) ps rs → AllZip (IsShown path before after) qs ss → rs ≡ ss
   shown_one [] [] [] [] same p q = refl
   shown_one [] [] [] (s ∷ ss) same p q = absurd q
   shown_one [] [] (r ∷ rs) ss same p q = absurd p

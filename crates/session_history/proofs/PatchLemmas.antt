@@ -7,7 +7,8 @@ use Rattle.term_changes.proofs.EntryLemmas.{store_from_before, flipped_forward_f
 use Rattle.session_history.specs.inside.Adding.{AddsStep}
 use Rattle.session_history.specs.inside.Adding.{AddsEntries}
 
-pub adds_many : (es : List Entry) (s t : Store) (l m : List Entry) → FitsForward es s → t ≡ after es s → m ≡ l ++ flipped_forward es s → AddsEntries s l t m
+pub adds_many : (es : List Entry) (s t : Store) (l m : List Entry) → FitsForward es s → t ≡ after es s
+    → m ≡ l ++ flipped_forward es s → AddsEntries s l t m
 adds_many es s t l m fit store log = record {
   added = flipped_forward es s;
   after = log;
@@ -15,7 +16,8 @@ adds_many es s t l m fit store log = record {
   fits = subst (Fits (flipped_forward es s)) (sym store) (flipped_forward_fits es s fit);
 }
 
-pub adds_compact : (logs new : List (List Entry)) (step : List Entry) → new ≡ logs ++ step ∷ [] → IsCompact step → AddsStep logs step new
+pub adds_compact : (logs new : List (List Entry)) (step : List Entry) → new ≡ logs ++ step ∷ [] → IsCompact step
+    → AddsStep logs step new
 adds_compact logs new step all h = record {
   left = step;
   all = all;

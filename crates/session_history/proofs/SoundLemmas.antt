@@ -43,11 +43,13 @@ module _ {X : Type 0} (P : X → Type 0) where
 
   have_with : (xs : Named X) (name : List ℕ) (x : X) → Have xs → P x → Have (finmap.insert xs name x)
   have_with xs name x s h q = subst (λ o. IfSome o P) (sym (get-insert nat_list_cmp_total xs name x q))
-      (elim (eq_by_cmp (slice_cmp nat_cmp) q name) as (λ b. IfSome (cond b (Some x) (get xs q)) P) [ true ↦ h | false ↦ s q ])
+      (elim (eq_by_cmp (slice_cmp nat_cmp) q name) as (λ b.
+      IfSome (cond b (Some x) (get xs q)) P) [ true ↦ h | false ↦ s q ])
 
   pub have_without : (xs : Named X) (name : List ℕ) → Have xs → Have (finmap.remove xs name)
   have_without xs name s q = subst (λ o. IfSome o P) (sym (get-remove nat_list_cmp_total xs name q))
-      (elim (eq_by_cmp (slice_cmp nat_cmp) q name) as (λ b. IfSome (cond b None (get xs q)) P) [ true ↦ tt | false ↦ s q ])
+      (elim (eq_by_cmp (slice_cmp nat_cmp) q name) as (λ b.
+      IfSome (cond b None (get xs q)) P) [ true ↦ tt | false ↦ s q ])
 
 abbrev Low : Tree → Type 0
 Low t = height t ≤ MAX_HEIGHT
@@ -63,7 +65,8 @@ sound_no_contents ps most = (
   (have_none Low, readable_empty most),
   record {
     modules = [];
-    are = subst (λ (names : List (List ℕ)). AreRead finmap.empty names []) (sym (no_keys finmap.empty (λ q. get-empty (slice_cmp nat_cmp) q))) tt;
+    are = subst (λ (names : List (List ℕ)). AreRead finmap.empty names [])
+        (sym (no_keys finmap.empty (λ q. get-empty (slice_cmp nat_cmp) q))) tt;
     fault = refl;
   },
 )
@@ -73,7 +76,8 @@ sound_no_contents ps most = (
 pub height_of_fit : (room l : ℕ) (t : Tree) → fits room l t ≡ true → l + height t ≤ MAX_HEIGHT
 height_of_fit room l t h = grind (arith, nat_tests)
 
-heights-set : (us : List Tree) (i : ℕ) (u : Tree) (n : ℕ) → heights (of_list us) ≤ n → height u ≤ n → heights (of_list (set us i u)) ≤ n
+heights-set : (us : List Tree) (i : ℕ) (u : Tree) (n : ℕ)
+    → heights (of_list us) ≤ n → height u ≤ n → heights (of_list (set us i u)) ≤ n
 heights-set [] i u n h k = h
 heights-set (x ∷ us) zero u n h k = omega (arith, h, k)
 heights-set (x ∷ us) (suc i) u n h k = let rest = heights-set us i u n (omega (arith, h)) k in omega (arith, h, rest)
@@ -90,7 +94,8 @@ child_height (branch head kids notes) i kid e =
     let same : heights (of_list (to_list kids)) ≡ heights kids = ap heights (of_list-to_list kids) in
     omega (arith, low, same)
 
-with_child_height : (t : Tree) (i : ℕ) (v : Tree) (l n : ℕ) → l + height t ≤ n → l + 1 + height v ≤ n → l + height (with_child t i v) ≤ n
+with_child_height : (t : Tree) (i : ℕ) (v : Tree) (l n : ℕ)
+    → l + height t ≤ n → l + 1 + height v ≤ n → l + height (with_child t i v) ≤ n
 with_child_height (integer z notes) i v l n h k = h
 with_child_height (branch head kids notes) i v l n h k =
     let same : heights (of_list (to_list kids)) ≡ heights kids = ap heights (of_list-to_list kids) in
@@ -98,63 +103,77 @@ with_child_height (branch head kids notes) i v l n h k =
     omega (arith, h, k, low)
 
 -- a change that keeps the subterm at a path low enough keeps the tree so
-changed_height : (f : Tree → Tree) (t : Tree) (p : List ℕ) (l n : ℕ) → l + height t ≤ n → ((u : Tree) → l + length p + height u ≤ n → l + length p + height (f u) ≤ n) → l + height (changed_at f t p) ≤ n
+changed_height : (f : Tree → Tree) (t : Tree) (p : List ℕ) (l n : ℕ) → l + height t ≤ n
+    → ((u : Tree) → l + length p + height u ≤ n → l + length p + height (f u) ≤ n) → l + height (changed_at f t p) ≤ n
 changed_height f t [] l n h k = let last = k t (omega (arith, h)) in omega (arith, last)
 changed_height f t (i ∷ p) l n h k =
     elim (slice_get (children t) i) as (λ o. slice_get (children t) i ≡ o → l + height (changed_at f t (i ∷ p)) ≤ n) [
       | None ↦ λ e. subst (λ s. l + height s ≤ n) (sym (changed_at-no_child f t i p e)) h
       | Some kid ↦ λ e.
-          let below = changed_height f kid p (l + 1) n (omega (arith, h, child_height t i kid e)) (λ u b. let last = k u (omega (arith, b)) in omega (arith, last)) in
-          subst (λ s. l + height s ≤ n) (sym (changed_at-child f t kid i p e)) (with_child_height t i (changed_at f kid p) l n h below)
+          let below = changed_height f kid p (l + 1) n (omega (arith, h, child_height t i kid e))
+          (λ u b. let last = k u (omega (arith, b)) in omega (arith, last)) in
+          subst (λ s. l + height s ≤ n) (sym (changed_at-child f t kid i p e))
+          (with_child_height t i (changed_at f kid p) l n h below)
     ] refl
 
-pub height_of_set : (room : ℕ) (t u : Tree) (p : List ℕ) → height t ≤ MAX_HEIGHT → fits room (length p) u ≡ true → height (set_at t p u) ≤ MAX_HEIGHT
+pub height_of_set : (room : ℕ) (t u : Tree) (p : List ℕ)
+    → height t ≤ MAX_HEIGHT → fits room (length p) u ≡ true → height (set_at t p u) ≤ MAX_HEIGHT
 height_of_set room t u p h f =
     let low = height_of_fit room (length p) u f in
     let all = changed_height (λ _. u) t p 0 MAX_HEIGHT (omega (arith, h)) (λ v b. omega (arith, low)) in
     omega (arith, all, ap height (set_at-changed t u p))
 
-heights_of_fit : (room l : ℕ) (us : List Tree) → list_all (fits room l) us ≡ true → l ≤ MAX_HEIGHT → l + heights (of_list us) ≤ MAX_HEIGHT
+heights_of_fit : (room l : ℕ) (us : List Tree)
+    → list_all (fits room l) us ≡ true → l ≤ MAX_HEIGHT → l + heights (of_list us) ≤ MAX_HEIGHT
 heights_of_fit room l [] h k = omega (arith, k)
 heights_of_fit room l (u ∷ us) h k = grind (arith, nat_tests, heights_of_fit room l us, height_of_fit room l u)
 
-annotated_height : (t : Tree) (us : List Tree) (l n : ℕ) → l + height t ≤ n → l + 1 + heights (of_list us) ≤ n → l + height (with_annotations t us) ≤ n
+annotated_height : (t : Tree) (us : List Tree) (l n : ℕ)
+    → l + height t ≤ n → l + 1 + heights (of_list us) ≤ n → l + height (with_annotations t us) ≤ n
 annotated_height t us l n h k = grind arith
 
 some_height : (t : Tree) → 1 ≤ height t
 some_height (integer z notes) = omega arith
 some_height (branch head kids notes) = omega arith
 
-pub height_of_annotated : (room : ℕ) (t : Tree) (us : List Tree) (p : List ℕ) → height t ≤ MAX_HEIGHT → list_all (fits room (length p + 1)) us ≡ true → height (set_annotations_at t p us) ≤ MAX_HEIGHT
+pub height_of_annotated : (room : ℕ) (t : Tree) (us : List Tree) (p : List ℕ) → height t
+    ≤ MAX_HEIGHT → list_all (fits room (length p + 1)) us ≡ true → height (set_annotations_at t p us) ≤ MAX_HEIGHT
 height_of_annotated room t us p h f =
     let all = changed_height (λ u. with_annotations u us) t p 0 MAX_HEIGHT (omega (arith, h)) (λ v b.
-    let low : length p + 1 + heights (of_list us) ≤ MAX_HEIGHT = heights_of_fit room (length p + 1) us f (omega (arith, b, some_height v)) in
+    let low : length p + 1 + heights (of_list us) ≤ MAX_HEIGHT =
+    heights_of_fit room (length p + 1) us f (omega (arith, b, some_height v)) in
     annotated_height v us (0 + length p) MAX_HEIGHT b (omega (arith, low))) in
     omega (arith, all, ap height (set_annotations_at-changed t us p))
 
 -- ---- histories
 
 -- the current contents are well formed, and outside a group they are sound
-pub formed_now : (ps : Primitives) (most : ℕ) (c : Contents) (o : Option HistoryGroup) → IsSoundNow ps most c o → AreFormed most c
+pub formed_now : (ps : Primitives) (most : ℕ) (c : Contents) (o : Option HistoryGroup) → IsSoundNow ps most c o
+    → AreFormed most c
 formed_now ps most c o s = grind arith
 
-pub sound_outside : (h : History) → HasSoundContents h → h.group ≡ None → AreSound h.primitives h.limits.max_tokens h.now
+pub sound_outside : (h : History) → HasSoundContents h
+    → h.group ≡ None → AreSound h.primitives h.limits.max_tokens h.now
 sound_outside h s closed = subst (IsSoundNow h.primitives h.limits.max_tokens h.now) closed s.1
 
-pub sound_begun : (h : History) (group : HistoryGroup) → HasSoundContents h → h.group ≡ Some group → AreSound h.primitives h.limits.max_tokens group.begun
+pub sound_begun : (h : History) (group : HistoryGroup) → HasSoundContents h → h.group ≡ Some group
+    → AreSound h.primitives h.limits.max_tokens group.begun
 sound_begun h group s e = (subst (IsSoundNow h.primitives h.limits.max_tokens h.now) e s.1).1
 
-pub sound_changed : (c : Contents) (h : History) → HasSoundContents h → AreFormed h.limits.max_tokens c → (h.group ≡ None → Finds h.primitives c.modules None) → HasSoundContents (changed c h)
+pub sound_changed : (c : Contents) (h : History) → HasSoundContents h → AreFormed h.limits.max_tokens c
+    → (h.group ≡ None → Finds h.primitives c.modules None) → HasSoundContents (changed c h)
 sound_changed c h s k f = by h.group refl s.1
   where
     by : (o : Option HistoryGroup) → h.group ≡ o → IsSoundNow h.primitives h.limits.max_tokens h.now o
-        → HasSoundContents (option_map_or (λ g. record h { now = c; group = Some (record g { changed = true }) }) o (record (stepped h.now h) { now = c }))
+        → HasSoundContents (option_map_or (λ g. record h { now = c; group = Some (record g { changed = true }) }) o
+        (record (stepped h.now h) { now = c }))
     by None e n = ((n, s.0), subst (IsSoundNow h.primitives h.limits.max_tokens c) (sym e) (k, f e), tt)
     by (Some group) e n = (s.0, (k, n.1, tt), s.2)
 
 -- a sound history without an open group
 abbrev Whole : History → Type 0
-Whole h = (h.group ≡ None) × (AllByRecursion (AreSound h.primitives h.limits.max_tokens) h.past × AreSound h.primitives h.limits.max_tokens h.now × AllByRecursion (AreSound h.primitives h.limits.max_tokens) h.later)
+Whole h = (h.group ≡ None) × (AllByRecursion (AreSound h.primitives h.limits.max_tokens) h.past × AreSound h.primitives
+    h.limits.max_tokens h.now × AllByRecursion (AreSound h.primitives h.limits.max_tokens) h.later)
 
 whole : (h : History) → HasSoundContents h → h.group ≡ None → Whole h
 whole h s closed = (closed, (s.0, sound_outside h s closed, s.2))
@@ -165,7 +184,8 @@ sound_whole h w = (w.1.0, subst (IsSoundNow h.primitives h.limits.max_tokens h.n
 whole_back : (h g : History) → Whole h → step_back h ≡ Some g → Whole g
 whole_back h g w e = by h.past w.1.0 e
   where
-    by : (past : List Contents) → AllByRecursion (AreSound h.primitives h.limits.max_tokens) past → back_to h past ≡ Some g → Whole g
+    by : (past : List Contents) → AllByRecursion (AreSound h.primitives h.limits.max_tokens) past
+        → back_to h past ≡ Some g → Whole g
     by [] a e = absurd (cc)
     by (c ∷ cs) a e =
         subst Whole (same_Some _ _ e) (w.0, (a.1, a.0, (w.1.1, w.1.2)))
@@ -173,16 +193,20 @@ whole_back h g w e = by h.past w.1.0 e
 whole_forward : (h g : History) → Whole h → step_forward h ≡ Some g → Whole g
 whole_forward h g w e = by h.later w.1.2 e
   where
-    by : (later : List Contents) → AllByRecursion (AreSound h.primitives h.limits.max_tokens) later → forward_to h later ≡ Some g → Whole g
+    by : (later : List Contents) → AllByRecursion (AreSound h.primitives h.limits.max_tokens) later
+        → forward_to h later ≡ Some g → Whole g
     by [] a e = absurd (cc)
     by (c ∷ cs) a e = subst Whole (same_Some _ _ e) (w.0, ((w.1.1, w.1.0), a.0, a.1))
 
 -- ---- acts
 
-pub sound_committed : (group : HistoryGroup) (h : History) → HasSoundContents h → h.group ≡ Some group → Finds h.primitives h.now.modules None → HasSoundContents (committed group h)
+pub sound_committed : (group : HistoryGroup) (h : History) → HasSoundContents h → h.group ≡ Some group
+    → Finds h.primitives h.now.modules None → HasSoundContents (committed group h)
 sound_committed group h s inside found =
-    let now : AreSound h.primitives h.limits.max_tokens h.now = (formed_now h.primitives h.limits.max_tokens h.now h.group s.1, found) in
-    elim group.changed as (λ b. HasSoundContents (cond b (record (stepped group.begun h) { group = None }) (record h { group = None }))) [
+    let now : AreSound h.primitives h.limits.max_tokens h.now =
+    (formed_now h.primitives h.limits.max_tokens h.now h.group s.1, found) in
+    elim group.changed as (λ b.
+    HasSoundContents (cond b (record (stepped group.begun h) { group = None }) (record h { group = None }))) [
       | true ↦ ((sound_begun h group s inside, s.0), now, tt)
       | false ↦ (s.0, now, s.2)
     ]
@@ -220,13 +244,15 @@ low_at : (c : Contents) (name : List ℕ) (t : Tree) → get c.trees name ≡ So
 low_at c name t e low = subst (λ (o : Option Tree). IfSome o Low) e (low name)
 
 -- the resulting tree, if heights are kept
-given_low : (o : Ending) (t : Tree) → given_by o ≡ Ok t → IfGiven o (λ u e. height u ≤ MAX_HEIGHT) → height t ≤ MAX_HEIGHT
+given_low : (o : Ending) (t : Tree) → given_by o ≡ Ok t
+    → IfGiven o (λ u e. height u ≤ MAX_HEIGHT) → height t ≤ MAX_HEIGHT
 given_low (gives u e) t is low = let same : u ≡ t = cc in subst (λ (x : Tree). height x ≤ MAX_HEIGHT) same low
 given_low fails t is low = absurd (cc)
 given_low (stops why) t is low = absurd (cc)
 
 -- a tree that is put under a name
-tree_put : (act : Act) (h g : History) (name : List ℕ) (tree : Tree) → ChangesTo (with_tree h.now name tree) h (Ok g) → (StandsOn act → AreLow h.now.trees → height tree ≤ MAX_HEIGHT) → TreesChange act h g
+tree_put : (act : Act) (h g : History) (name : List ℕ) (tree : Tree) → ChangesTo (with_tree h.now name tree) h (Ok g)
+    → (StandsOn act → AreLow h.now.trees → height tree ≤ MAX_HEIGHT) → TreesChange act h g
 tree_put act h g name tree done within = record {
   trees = finmap.insert h.now.trees name tree;
   is = same_Ok (changed (with_tree h.now name tree) h) g done;
@@ -236,10 +262,12 @@ tree_put act h g name tree done within = record {
 pub trees_change : (act : Act) (h g : History) → ChangesTrees act → ComesTo act h (Ok g) → TreesChange act h g
 trees_change (set_tree name tree) h g only done =
     let fit = holding_Ok (fits h.limits.max_terms 0 tree) Big (ChangesTo (with_tree h.now name tree) h) g done in
-    tree_put (set_tree name tree) h g name tree fit.1 (λ _ low. omega (arith, height_of_fit h.limits.max_terms 0 tree fit.0))
+    tree_put (set_tree name tree) h g name tree fit.1
+    (λ _ low. omega (arith, height_of_fit h.limits.max_terms 0 tree fit.0))
 trees_change (copy_tree name copy) h g only done =
     let there = passing_Ok (tree_of h.now name) (λ t. ChangesTo (with_tree h.now copy t) h) g done in
-    tree_put (copy_tree name copy) h g copy there.0 there.2 (λ _ low. low_at h.now name there.0 (ok_or-Ok (get h.now.trees name) NoTree there.0 there.1) low)
+    tree_put (copy_tree name copy) h g copy there.0 there.2
+    (λ _ low. low_at h.now name there.0 (ok_or-Ok (get h.now.trees name) NoTree there.0 there.1) low)
 trees_change (drop_tree name) h g only done =
     let there = passing_Ok (tree_of h.now name) (λ t. ChangesTo (without_tree h.now name) h) g done in
     record {
@@ -250,51 +278,64 @@ trees_change (drop_tree name) h g only done =
 trees_change (put name path part) h g only done =
     let there = passing_Ok (place_of h.now name path) (PutsAt name path part h) g done in
     let tree = set_at there.0.tree path part in
-    let fit = holding_Ok (fits h.limits.max_terms (length path) part) Big (ChangesTo (with_tree h.now name tree) h) g there.2 in
+    let fit =
+    holding_Ok (fits h.limits.max_terms (length path) part) Big (ChangesTo (with_tree h.now name tree) h) g there.2 in
     let within = low_at h.now name there.0.tree (place_tree h.now name path there.0 there.1) in
-    tree_put (put name path part) h g name tree fit.1 (λ _ low. height_of_set h.limits.max_terms there.0.tree part path (within low) fit.0)
+    tree_put (put name path part) h g name tree fit.1
+    (λ _ low. height_of_set h.limits.max_terms there.0.tree part path (within low) fit.0)
 trees_change (annotate name path us) h g only done =
     let there = passing_Ok (place_of h.now name path) (AnnotatesAt name path us h) g done in
     let tree = set_annotations_at there.0.tree path us in
-    let fit = holding_Ok (list_all (fits h.limits.max_terms (length path + 1)) us) Big (ChangesTo (with_tree h.now name tree) h) g there.2 in
+    let fit = holding_Ok (list_all (fits h.limits.max_terms (length path + 1)) us) Big
+    (ChangesTo (with_tree h.now name tree) h) g there.2 in
     let within = low_at h.now name there.0.tree (place_tree h.now name path there.0 there.1) in
-    tree_put (annotate name path us) h g name tree fit.1 (λ _ low. height_of_annotated h.limits.max_terms there.0.tree us path (within low) fit.0)
+    tree_put (annotate name path us) h g name tree fit.1
+    (λ _ low. height_of_annotated h.limits.max_terms there.0.tree us path (within low) fit.0)
 trees_change (apply meaning name path steps text) h g only done =
-    let Resolves : Located → Strategy → Program → ActResult → Type 0 = λ place s program. Passing (resolved_in program h.primitives s) (AppliesAt meaning name path steps h place program) in
-    let Checked : Located → Strategy → ActResult → Type 0 = λ place s. Given (Checks h.primitives h.now.modules) (Resolves place s) in
+    let Resolves : Located → Strategy → Program → ActResult → Type 0 = λ place s program.
+    Passing (resolved_in program h.primitives s) (AppliesAt meaning name path steps h place program) in
+    let Checked : Located → Strategy → ActResult → Type 0 =
+    λ place s. Given (Checks h.primitives h.now.modules) (Resolves place s) in
     let Read : Located → ActResult → Type 0 = λ place. Given (ReadsAsStrategy text) (Checked place) in
     let there = passing_Ok (place_of h.now name path) Read g done in
     let read = given_Ok (ReadsAsStrategy text) (Checked there.0) g there.2 in
     let checked = given_Ok (Checks h.primitives h.now.modules) (Resolves there.0 read.0) g read.2 in
-    let whole = passing_Ok (resolved_in checked.0 h.primitives read.0) (AppliesAt meaning name path steps h there.0 checked.0) g checked.2 in
+    let whole = passing_Ok (resolved_in checked.0 h.primitives read.0)
+    (AppliesAt meaning name path steps h there.0 checked.0) g checked.2 in
     let ending = applied (world_in meaning checked.0 h.primitives h.limits.max_terms) path whole.0 steps there.0.tree in
     let given = passing_Ok (given_by ending) (λ tree. ChangesTo (with_tree h.now name tree) h) g whole.2 in
     let within = low_at h.now name there.0.tree (place_tree h.now name path there.0 there.1) in
     tree_put (apply meaning name path steps text) h g name given.0 given.2
-    (λ keeps low. given_low ending given.0 given.1 (keeps (world_in meaning checked.0 h.primitives h.limits.max_terms) path whole.0 steps there.0.tree (within low)))
+    (λ keeps low. given_low ending given.0 given.1
+    (keeps (world_in meaning checked.0 h.primitives h.limits.max_terms) path whole.0 steps there.0.tree (within low)))
 trees_change act h g only done = absurd only
 
 -- a change of the trees leaves the modules as they are
-trees_sound : (act : Act) (h g : History) → ChangesTrees act → StandsOn act → HasSoundContents h → ComesTo act h (Ok g) → HasSoundContents g
+trees_sound : (act : Act) (h g : History) → ChangesTrees act → StandsOn act → HasSoundContents h → ComesTo act h (Ok g)
+    → HasSoundContents g
 trees_sound act h g only stands s done =
     let change = trees_change act h g only done in
     let formed = formed_now h.primitives h.limits.max_tokens h.now h.group s.1 in
-    subst HasSoundContents (sym change.is) (sound_changed (record h.now { trees = change.trees }) h s (change.low stands formed.0, formed.1) (λ closed. (sound_outside h s closed).1))
+    subst HasSoundContents (sym change.is) (sound_changed (record h.now { trees = change.trees }) h s
+    (change.low stands formed.0, formed.1) (λ closed. (sound_outside h s closed).1))
 
 trees_leave : (act : Act) (h g : History) → ChangesTrees act → ComesTo act h (Ok g) → g.now.modules ≡ h.now.modules
 trees_leave act h g only done =
     let change = trees_change act h g only done in
-    ap (λ (x : History). x.now.modules) change.is ∙ ap (λ (c : Contents). c.modules) (now_changed (record h.now { trees = change.trees }) h)
+    ap (λ (x : History). x.now.modules) change.is
+    ∙ ap (λ (c : Contents). c.modules) (now_changed (record h.now { trees = change.trees }) h)
 
 -- ---- acts that change the modules
 
-modules_change : (o : Option HistoryGroup) (c : Contents) (h g : History) → ChangesModules o c h (Ok g) → (g ≡ changed c h) × (o ≡ None → Finds h.primitives c.modules None)
+modules_change : (o : Option HistoryGroup) (c : Contents) (h g : History) → ChangesModules o c h (Ok g)
+    → (g ≡ changed c h) × (o ≡ None → Finds h.primitives c.modules None)
 modules_change None c h g done =
     let checked = given_Ok (Checks h.primitives c.modules) (λ p. ChangesTo c h) g done in
     (same_Ok (changed c h) g checked.2, λ _. program_finds h.primitives c.modules checked.0 checked.1)
 modules_change (Some group) c h g done = (same_Ok (changed c h) g done, λ none. absurd (cc))
 
-modules_sound : (c : Contents) (h g : History) → HasSoundContents h → AreFormed h.limits.max_tokens c → ChangesModules h.group c h (Ok g) → HasSoundContents g
+modules_sound : (c : Contents) (h g : History) → HasSoundContents h → AreFormed h.limits.max_tokens c
+    → ChangesModules h.group c h (Ok g) → HasSoundContents g
 modules_sound c h g s formed done =
     let change = modules_change h.group c h g done in
     subst HasSoundContents (sym change.0) (sound_changed c h s formed change.1)
@@ -306,55 +347,70 @@ moved h g o refusal done =
     let there = passing_Ok (ok_or o refusal) Leaves g done in
     ok_or-Ok o refusal there.0 there.1 ∙ ap (λ (x : History). Some x) (sym (same_Ok there.0 g there.2))
 
-pub step_sound : (act : Act) (h g : History) → StandsOn act → HasSoundContents h → ComesTo act h (Ok g) → HasSoundContents g
+pub step_sound : (act : Act) (h g : History) → StandsOn act → HasSoundContents h → ComesTo act h (Ok g)
+    → HasSoundContents g
 step_sound (set_module name text) h g stands s done =
-    let read = given_Ok (ReadsAsModuleOf h.limits.max_tokens text) (λ m. ChangesModules h.group (with_module h.now name text) h) g done in
+    let read = given_Ok (ReadsAsModuleOf h.limits.max_tokens text)
+    (λ m. ChangesModules h.group (with_module h.now name text) h) g done in
     let formed = formed_now h.primitives h.limits.max_tokens h.now h.group s.1 in
-    modules_sound (with_module h.now name text) h g s (formed.0, have_with (IsReadable h.limits.max_tokens) h.now.modules name text formed.1 (read.0, read.1)) read.2
+    modules_sound (with_module h.now name text) h g s
+    (formed.0, have_with (IsReadable h.limits.max_tokens) h.now.modules name text formed.1 (read.0, read.1)) read.2
 step_sound (unload name) h g stands s done =
-    let there = passing_Ok (module_text_of h.now name) (λ text. ChangesModules h.group (without_module h.now name) h) g done in
+    let there =
+    passing_Ok (module_text_of h.now name) (λ text. ChangesModules h.group (without_module h.now name) h) g done in
     let formed = formed_now h.primitives h.limits.max_tokens h.now h.group s.1 in
-    modules_sound (without_module h.now name) h g s (formed.0, have_without (IsReadable h.limits.max_tokens) h.now.modules name formed.1) there.2
+    modules_sound (without_module h.now name) h g s
+    (formed.0, have_without (IsReadable h.limits.max_tokens) h.now.modules name formed.1) there.2
 step_sound (undo k) h g stands s done =
     let there = holding_Ok (is_none h.group) Group (Passing (ok_or (undone k h) NoUndo) Leaves) g done in
-    sound_whole g (moved_keeps step_back Whole whole_back k h g (whole h s (none_of h.group there.0)) (moved h g (undone k h) NoUndo there.1))
+    sound_whole g (moved_keeps step_back Whole whole_back k h g (whole h s (none_of h.group there.0))
+    (moved h g (undone k h) NoUndo there.1))
 step_sound (redo k) h g stands s done =
     let there = holding_Ok (is_none h.group) Group (Passing (ok_or (redone k h) NoRedo) Leaves) g done in
-    sound_whole g (moved_keeps step_forward Whole whole_forward k h g (whole h s (none_of h.group there.0)) (moved h g (redone k h) NoRedo there.1))
+    sound_whole g (moved_keeps step_forward Whole whole_forward k h g (whole h s (none_of h.group there.0))
+    (moved h g (redone k h) NoRedo there.1))
 step_sound begin h g stands s done =
     let begun : History = record h { group = Some (record { begun = h.now; changed = false }) } in
     let there = holding_Ok (is_none h.group) Group (Leaves begun) g done in
     let now = sound_outside h s (none_of h.group there.0) in
     subst HasSoundContents (sym (same_Ok begun g there.1)) (s.0, (now.0, now, refl), s.2)
 step_sound commit h g stands s done =
-    let there = passing_Ok (ok_or h.group NoGroup) (λ group. Given (Checks h.primitives h.now.modules) (λ p. Leaves (committed group h))) g done in
+    let there = passing_Ok (ok_or h.group NoGroup)
+    (λ group. Given (Checks h.primitives h.now.modules) (λ p. Leaves (committed group h))) g done in
     let checked = given_Ok (Checks h.primitives h.now.modules) (λ p. Leaves (committed there.0 h)) g there.2 in
-    subst HasSoundContents (sym (same_Ok (committed there.0 h) g checked.2)) (sound_committed there.0 h s (ok_or-Ok h.group NoGroup there.0 there.1) (program_finds h.primitives h.now.modules checked.0 checked.1))
+    subst HasSoundContents (sym (same_Ok (committed there.0 h) g checked.2)) (sound_committed there.0 h s
+    (ok_or-Ok h.group NoGroup there.0 there.1) (program_finds h.primitives h.now.modules checked.0 checked.1))
 step_sound abandon h g stands s done =
-    let there = passing_Ok (ok_or h.group NoGroup) (λ group. Leaves (record h { now = group.begun; group = None })) g done in
+    let there =
+    passing_Ok (ok_or h.group NoGroup) (λ group. Leaves (record h { now = group.begun; group = None })) g done in
     let left : History = record h { now = there.0.begun; group = None } in
-    subst HasSoundContents (sym (same_Ok left g there.2)) (s.0, sound_begun h there.0 s (ok_or-Ok h.group NoGroup there.0 there.1), s.2)
+    subst HasSoundContents (sym (same_Ok left g there.2))
+    (s.0, sound_begun h there.0 s (ok_or-Ok h.group NoGroup there.0 there.1), s.2)
 step_sound act h g stands s done = trees_sound act h g tt stands s done
 
 -- an accepted act does what the machine does, and a refused one changes nothing
-pub act_sound : {A E : Type 0} (act : Act) (r : Result A E) (old new : History) → StandsOn act → OnOk r (ComesTo act old (Ok new)) → OnErr r (new ≡ old) → HasSoundContents old → HasSoundContents new
+pub act_sound : {A E : Type 0} (act : Act) (r : Result A E) (old new : History) → StandsOn act
+    → OnOk r (ComesTo act old (Ok new)) → OnErr r (new ≡ old) → HasSoundContents old → HasSoundContents new
 act_sound act (Ok x) old new stands ok err s = step_sound act old new stands s ok
 act_sound act (Err e) old new stands ok err s = subst HasSoundContents (sym err) s
 
 -- an accepted change leads to contents by a change
 pub change_is_to_contents : ChangeIsToContents
 change_is_to_contents (set_module name text) h g change done =
-    let read = given_Ok (ReadsAsModuleOf h.limits.max_tokens text) (λ m. ChangesModules h.group (with_module h.now name text) h) g done in
+    let read = given_Ok (ReadsAsModuleOf h.limits.max_tokens text)
+    (λ m. ChangesModules h.group (with_module h.now name text) h) g done in
     (with_module h.now name text, (modules_change h.group (with_module h.now name text) h g read.2).0)
 change_is_to_contents (unload name) h g change done =
-    let there = passing_Ok (module_text_of h.now name) (λ text. ChangesModules h.group (without_module h.now name) h) g done in
+    let there =
+    passing_Ok (module_text_of h.now name) (λ text. ChangesModules h.group (without_module h.now name) h) g done in
     (without_module h.now name, (modules_change h.group (without_module h.now name) h g there.2).0)
 change_is_to_contents (undo k) h g change done = absurd change
 change_is_to_contents (redo k) h g change done = absurd change
 change_is_to_contents begin h g change done = absurd change
 change_is_to_contents commit h g change done = absurd change
 change_is_to_contents abandon h g change done = absurd change
-change_is_to_contents act h g change done = let t = trees_change act h g tt done in (record h.now { trees = t.trees }, t.is)
+change_is_to_contents act h g change done = let t = trees_change act h g tt done in
+    (record h.now { trees = t.trees }, t.is)
 
 -- ---- acts that leave the modules as they are
 
@@ -369,7 +425,8 @@ step_leaves begin h g leaves done =
 step_leaves act h g leaves done = trees_leave act h g leaves done
 
 -- the answer to such an act
-pub act_leaves : {A E : Type 0} (act : Act) (r : Result A E) (old new : History) → LeavesModules act → OnOk r (ComesTo act old (Ok new)) → OnErr r (new ≡ old) → new.now.modules ≡ old.now.modules
+pub act_leaves : {A E : Type 0} (act : Act) (r : Result A E) (old new : History) → LeavesModules act
+    → OnOk r (ComesTo act old (Ok new)) → OnErr r (new ≡ old) → new.now.modules ≡ old.now.modules
 act_leaves act (Ok x) old new leaves ok err = step_leaves act old new leaves ok
 act_leaves act (Err e) old new leaves ok err = ap (λ (h : History). h.now.modules) err
 

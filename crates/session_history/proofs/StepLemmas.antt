@@ -17,15 +17,18 @@ use Rattle.session_modules.specs.declared.refusal.Refusal.TheVariants.{Memory, N
 pub same_Ok : (g h : History) → ◌≡◌ {A = ActResult} (Ok h) (Ok g) → h ≡ g
 same_Ok g h e = cc
 
-pub passing_Ok : {X : Type 0} (test : Result X Refusal) (next : X → ActResult → Type 0) (g : History) → Passing test next (Ok g) → (x : X) × (test ≡ Ok x) × next x (Ok g)
+pub passing_Ok : {X : Type 0} (test : Result X Refusal) (next : X → ActResult → Type 0) (g : History)
+    → Passing test next (Ok g) → (x : X) × (test ≡ Ok x) × next x (Ok g)
 passing_Ok (Ok x) next g p = (x, refl, p)
 passing_Ok (Err refusal) next g p = absurd (cc)
 
-pub holding_Ok : (test : Bool) (refusal : Refusal) (Next : ActResult → Type 0) (g : History) → Holding test refusal Next (Ok g) → (test ≡ true) × Next (Ok g)
+pub holding_Ok : (test : Bool) (refusal : Refusal) (Next : ActResult → Type 0) (g : History)
+    → Holding test refusal Next (Ok g) → (test ≡ true) × Next (Ok g)
 holding_Ok true refusal Next g p = (refl, p)
 holding_Ok false refusal Next g p = absurd (cc)
 
-pub given_Ok : {X : Type 0} (Gives : Result X Refusal → Type 0) (next : X → ActResult → Type 0) (g : History) → Given Gives next (Ok g) → (x : X) × Gives (Ok x) × next x (Ok g)
+pub given_Ok : {X : Type 0} (Gives : Result X Refusal → Type 0) (next : X → ActResult → Type 0) (g : History)
+    → Given Gives next (Ok g) → (x : X) × Gives (Ok x) × next x (Ok g)
 given_Ok Gives next g (Ok x, gives, p) = (x, gives, p)
 given_Ok Gives next g (Err refusal, gives, p) = absurd (cc)
 
@@ -52,13 +55,16 @@ module _ {X : Type 0} (act : Act) (h g : History) where
   pub accepts : (x : X) → ComesTo act h (Ok g) → Performs act h g (Ok x)
   accepts x done = record { ok = done; refused = tt; err = tt }
 
-  pub refuses : (refusal : Refusal) → (refusal ≡ Memory) ⊎ ComesTo act h (Err refusal) → g ≡ h → Performs {X = X} act h g (Err refusal)
+  pub refuses : (refusal : Refusal) → (refusal ≡ Memory) ⊎ ComesTo act h (Err refusal)
+      → g ≡ h → Performs {X = X} act h g (Err refusal)
   refuses refusal why same = record { ok = tt; refused = why; err = same }
 
   -- the answer at a `?`
-  pub refuses_by : (r : Result X Refusal) (refusal : Refusal) → IsErrAnd r (λ e. e ≡ refusal) → (refusal ≡ Memory) ⊎ ComesTo act h (Err refusal) → g ≡ h → Performs act h g r
+  pub refuses_by : (r : Result X Refusal) (refusal : Refusal)
+      → IsErrAnd r (λ e. e ≡ refusal) → (refusal ≡ Memory) ⊎ ComesTo act h (Err refusal) → g ≡ h → Performs act h g r
   refuses_by (Ok x) refusal is why same = absurd is
-  refuses_by (Err e) refusal is why same = refuses e (subst (λ (e : Refusal). (e ≡ Memory) ⊎ ComesTo act h (Err e)) (sym is) why) same
+  refuses_by (Err e) refusal is why same =
+      refuses e (subst (λ (e : Refusal). (e ≡ Memory) ⊎ ComesTo act h (Err e)) (sym is) why) same
 
   pub wants : (r : Result X Refusal) → IsErrAnd r (λ e. e ≡ Memory) → g ≡ h → Performs act h g r
   wants r is same = refuses_by r Memory is (inl refl) same
@@ -69,7 +75,8 @@ pub some_there : {X : Type 0} (o : Option X) → IsSome o → (x : X) × (o ≡ 
 some_there None h = absurd (cc)
 some_there (Some x) h = (x, refl)
 
-pub ok_or-Ok : {X : Type 0} (o : Option X) (r : Refusal) (x : X) → ◌≡◌ {A = Result X Refusal} (ok_or o r) (Ok x) → o ≡ Some x
+pub ok_or-Ok : {X : Type 0} (o : Option X) (r : Refusal) (x : X) → ◌≡◌ {A = Result X Refusal} (ok_or o r) (Ok x)
+    → o ≡ Some x
 ok_or-Ok o r x e = grind arith
 
 pub none_of : (o : Option HistoryGroup) → is_none o ≡ true → o ≡ None
@@ -83,7 +90,8 @@ module _ (path : List ℕ) (t : Tree) where
   at_tree o place e = grind arith
 
 -- the tree of a place is that of the label
-pub place_tree : (c : Contents) (name path : List ℕ) (place : Located) → place_of c name path ≡ Ok place → finmap.get c.trees name ≡ Some place.tree
+pub place_tree : (c : Contents) (name path : List ℕ) (place : Located) → place_of c name path ≡ Ok place
+    → finmap.get c.trees name ≡ Some place.tree
 place_tree c name path place = by (finmap.get c.trees name)
   where
     by : (o : Option Tree) → place_in path (ok_or o NoTree) ≡ Ok place → o ≡ Some place.tree
@@ -92,8 +100,10 @@ place_tree c name path place = by (finmap.get c.trees name)
 
 module _ (c : Contents) (name path : List ℕ) where
   -- a label with a tree, and a path in it
-  pub place_there : (t part : Tree) → finmap.get c.trees name ≡ Some t → at t path ≡ Some part → place_of c name path ≡ Ok (record { tree = t; part = part })
-  place_there t part is leads_to = ap (λ (o : Option Tree). place_in path (ok_or o NoTree)) is ∙ ap (here path t) leads_to
+  pub place_there : (t part : Tree) → finmap.get c.trees name ≡ Some t → at t path ≡ Some part
+      → place_of c name path ≡ Ok (record { tree = t; part = part })
+  place_there t part is leads_to = ap (λ (o : Option Tree). place_in path (ok_or o NoTree)) is
+      ∙ ap (here path t) leads_to
 
 -- ---- what holds where a condition doesn't
 

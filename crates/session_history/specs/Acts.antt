@@ -116,7 +116,8 @@ Resolving name path text h next =
 -- The result of the strategy there becomes the label's tree, by a change.
 abbrev pub AppliesAt : Meaning → List ℕ → List ℕ → ℕ → History → Located → Program → Resolved → ActResult → Type 0
 AppliesAt meaning name path steps h place program strategy =
-    Passing (given_by (applied (world_in meaning program h.primitives h.limits.max_terms) path strategy steps place.tree))
+    Passing
+    (given_by (applied (world_in meaning program h.primitives h.limits.max_terms) path strategy steps place.tree))
     (λ tree. ChangesTo (with_tree h.now name tree) h)
 
 -- The changes of an open group become one step, if there are any.

@@ -92,7 +92,8 @@ abbrev pub names_of : {X : Type 0} → Named X → Named X → List (List ℕ)
 names_of a b = finmap.keys (finmap.from_entries {R = slice_cmp nat_cmp} (finmap.entries a ++ finmap.entries b))
 
 -- the lines of these names, one name after the other
-abbrev pub lines_of : {X : Type 0} → (List ℕ → Option X → Option X → List (List ℕ)) → Named X → Named X → List (List ℕ) → List (List ℕ)
+abbrev pub lines_of : {X : Type 0} → (List ℕ → Option X → Option X → List (List ℕ)) → Named X → Named X → List (List ℕ)
+    → List (List ℕ)
 lines_of lines a b names = flat_map (λ name. lines name (finmap.get a name) (finmap.get b name)) names
 
 -- how trees changed, and then how modules did: for this name, or for all names in byte order

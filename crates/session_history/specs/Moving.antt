@@ -30,7 +30,8 @@ pub record Moves (move : History → Option History) (touched : Bool) (old new :
 
 -- The open group becomes one step and is closed.
 pub record Commits (old new : Logged) : Type 0 where
-  pub made : (ps : List Signature) → IsSomeAnd (unfolded ps old).group (λ g. unfolded ps new ≡ committed g (unfolded ps old))
+  pub made : (ps : List Signature)
+      → IsSomeAnd (unfolded ps old).group (λ g. unfolded ps new ≡ committed g (unfolded ps old))
 
 -- The act is accepted and leads from one to the other.
 pub record Leads (act : Act) (old new : Logged) : Type 0 where
@@ -41,7 +42,8 @@ pub record PerformsOn {X : Type 0} (act : Act) (old new : Logged) (result : Resu
   pub at : (ps : List Signature) → Performs act (unfolded ps old) (unfolded ps new) result
 
 -- The same with these primitives.
-pub record PerformsBy {X : Type 0} (ps : List Signature) (act : Act) (old new : Logged) (result : Result X Refusal) : Type 0 where
+pub record PerformsBy {X : Type 0} (ps : List Signature) (act : Act) (old new : Logged)
+    (result : Result X Refusal) : Type 0 where
   pub is : Performs act (unfolded ps old) (unfolded ps new) result
 
 -- The same for an act that takes no memory.

@@ -45,7 +45,8 @@ Foresees path b before (stopped why) outcome = outcome ≡ Err (stopped_as why)
 
 abbrev pub ForeseesAt : Meaning → List ℕ → ℕ → History → Located → Program → Resolved → Result Preview Refusal → Type 0
 ForeseesAt meaning path b h place program strategy =
-    Foresees path b place.part (run_whole (world_in meaning program h.primitives h.limits.max_terms) (length path) strategy b place.part)
+    Foresees path b place.part
+    (run_whole (world_in meaning program h.primitives h.limits.max_terms) (length path) strategy b place.part)
 
 -- What applying a strategy, given as text, to the subterm at a path of a label's tree would replace,
 -- or the refusal. Its tests are those of `apply`.

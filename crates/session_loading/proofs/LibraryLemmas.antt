@@ -53,10 +53,12 @@ abbrev texts : Texts
 texts = finmap.insert finmap.empty LIBRARY_NAME.now LIBRARY.now
 
 are : AreModules texts modules
-are = are_given finmap.empty LIBRARY_NAME.now (Some LIBRARY.now) [] modules none (library, library_reads MODULE_TOKENS, refl)
+are = are_given finmap.empty LIBRARY_NAME.now (Some LIBRARY.now) [] modules none
+    (library, library_reads MODULE_TOKENS, refl)
   where
     none : AreModules finmap.empty []
-    none = subst (λ (names : List (List ℕ)). AreRead finmap.empty names []) (sym (no_keys finmap.empty (λ q. get-empty (slice_cmp nat_cmp) q))) tt
+    none = subst (λ (names : List (List ℕ)). AreRead finmap.empty names [])
+        (sym (no_keys finmap.empty (λ q. get-empty (slice_cmp nat_cmp) q))) tt
 
 gives : (primitives : Primitives) → GivesProgram primitives texts (program modules primitives)
 gives primitives = record { modules = modules; are = are; faultless = refl; given = refl }
@@ -66,11 +68,14 @@ gives primitives = record { modules = modules; are = are; faultless = refl; give
 abbrev loaded : Limits → List Signature → History
 loaded limits primitives = changed (with_text no_contents LIBRARY_NAME.now LIBRARY.now) (empty_within limits primitives)
 
-accepts : (limits : Limits) (primitives : List Signature) → ComesTo set_library (empty_within limits primitives) (Ok (loaded limits primitives))
-accepts limits primitives = (Ok library, library_reads limits.max_tokens, (Ok (program modules primitives), gives primitives, refl))
+accepts : (limits : Limits) (primitives : List Signature)
+    → ComesTo set_library (empty_within limits primitives) (Ok (loaded limits primitives))
+accepts limits primitives =
+    (Ok library, library_reads limits.max_tokens, (Ok (program modules primitives), gives primitives, refl))
 
 pub is_accepted : OneModule → OneResult → LibraryIsAccepted
 is_accepted one_module one_result limits primitives refusal refuses =
     let same : Ok (loaded limits primitives) ≡ Err refusal =
-    ComesTo-one one_module one_result set_library (empty_within limits primitives) (Ok (loaded limits primitives)) (Err refusal) (accepts limits primitives) refuses in
+    ComesTo-one one_module one_result set_library (empty_within limits primitives) (Ok (loaded limits primitives))
+    (Err refusal) (accepts limits primitives) refuses in
     absurd (cc)

@@ -21,7 +21,8 @@ pub data Found {X : Type 0} (Reads : X → Reading) (u : List Token) : Type 0 wh
   found : (x : X) (v : List Token) → Reads x u v → Found Reads u
 
 -- the sign after what was found
-abbrev mark : {X : Type 0} (Reads : X → Reading) (close : Sign) (u : List Token) → Found Reads u → Found (λ x. Reads x ▸ Mark close) u
+abbrev mark : {X : Type 0} (Reads : X → Reading) (close : Sign) (u : List Token) → Found Reads u
+    → Found (λ x. Reads x ▸ Mark close) u
 mark Reads CloseRound u (found x (ASign CloseRound ∷ v) r) = found x v (ASign CloseRound ∷ v, r, refl)
 mark Reads CloseSquare u (found x (ASign CloseSquare ∷ v) r) = found x v (ASign CloseSquare ∷ v, r, refl)
 mark Reads Bar u (found x (ASign Bar ∷ v) r) = found x v (ASign Bar ∷ v, r, refl)
@@ -32,7 +33,8 @@ mark Reads close u f = none
 abbrev Finds : {X : Type 0} → (X → Reading) → Type 0
 Finds Reads = (u : List Token) → Found Reads u
 
-abbrev or_choice : (u : List Token) (a : Seq) (x : List Token) → ReadsSeq a u (ASign LeftChoice ∷ x) → Found ReadsChoice x → Found ReadsChoice u
+abbrev or_choice : (u : List Token) (a : Seq) (x : List Token)
+    → ReadsSeq a u (ASign LeftChoice ∷ x) → Found ReadsChoice x → Found ReadsChoice u
 or_choice u a x r none = none
 or_choice u a x r (found b v s) = found (left_choice a b) v (ASign LeftChoice ∷ x, r, (x, refl, s))
 
@@ -41,7 +43,8 @@ choice_on u none choices = none
 choice_on u (found a (ASign LeftChoice ∷ x) r) choices = or_choice u a x r (choices x)
 choice_on u (found a x r) choices = found (sequence a) x r
 
-abbrev and_seq : (u : List Token) (a : Prefix) (x : List Token) → ReadsPrefix a u (ASign Semicolon ∷ x) → Found ReadsSeq x → Found ReadsSeq u
+abbrev and_seq : (u : List Token) (a : Prefix) (x : List Token)
+    → ReadsPrefix a u (ASign Semicolon ∷ x) → Found ReadsSeq x → Found ReadsSeq u
 and_seq u a x r none = none
 and_seq u a x r (found b v s) =
     found (before (arrow a no_patterns) b) v (ASign Semicolon ∷ x, (ASign Semicolon ∷ x, r, refl), (x, refl, s))
@@ -51,19 +54,23 @@ seq_on u none seqs = none
 seq_on u (found a (ASign Semicolon ∷ x) r) seqs = and_seq u a x r (seqs x)
 seq_on u (found a x r) seqs = found (last (arrow a no_patterns)) x (x, r, refl)
 
-abbrev operated : (o : Operator) (y : List Token) → Found (λ a. ReadsChoice a ▸ Mark CloseRound) y → Found ReadsPrefix (Reserved (word_of o) ∷ ASign OpenRound ∷ y)
+abbrev operated : (o : Operator) (y : List Token) → Found (λ a. ReadsChoice a ▸ Mark CloseRound) y
+    → Found ReadsPrefix (Reserved (word_of o) ∷ ASign OpenRound ∷ y)
 operated o y none = none
 operated o y (found a v r) = found (operator o a) v (ASign OpenRound ∷ y, refl, (y, refl, r))
 
-abbrev called : (f : Symbol) (y : List Token) → Found (λ a. ReadsChoice a ▸ Mark CloseRound) y → Found ReadsPrefix (Ident f ∷ ASign OpenRound ∷ y)
+abbrev called : (f : Symbol) (y : List Token) → Found (λ a. ReadsChoice a ▸ Mark CloseRound) y
+    → Found ReadsPrefix (Ident f ∷ ASign OpenRound ∷ y)
 called f y none = none
 called f y (found a v r) = found (call f (and_choice a no_choices)) v (ASign OpenRound ∷ y, refl, (y, refl, r))
 
-abbrev listed : (y : List Token) (a : Choice) (x : List Token) → (ReadsChoice a ▸ Mark Bar) y x → Found (λ b. ReadsChoice b ▸ Mark CloseSquare) x → Found ReadsPrefix (ASign OpenSquare ∷ y)
+abbrev listed : (y : List Token) (a : Choice) (x : List Token) → (ReadsChoice a ▸ Mark Bar) y x
+    → Found (λ b. ReadsChoice b ▸ Mark CloseSquare) x → Found ReadsPrefix (ASign OpenSquare ∷ y)
 listed y a x r none = none
 listed y a x r (found b v s) = found (square_with_tail (and_choice a no_choices) b) v (y, refl, (x, r, s))
 
-abbrev tailed : (y : List Token) → Found (λ a. ReadsChoice a ▸ Mark Bar) y → Finds ReadsChoice → Found ReadsPrefix (ASign OpenSquare ∷ y)
+abbrev tailed : (y : List Token) → Found (λ a. ReadsChoice a ▸ Mark Bar) y → Finds ReadsChoice
+    → Found ReadsPrefix (ASign OpenSquare ∷ y)
 tailed y none choices = none
 tailed y (found a x r) choices = listed y a x r (mark ReadsChoice CloseSquare x (choices x))
 
@@ -72,7 +79,8 @@ prefix_on (Reserved Id ∷ y) choices = found identity y refl
 prefix_on (Reserved All ∷ ASign OpenRound ∷ y) choices = operated AllOf y (mark ReadsChoice CloseRound y (choices y))
 prefix_on (Reserved One ∷ ASign OpenRound ∷ y) choices = operated OneOf y (mark ReadsChoice CloseRound y (choices y))
 prefix_on (Reserved KSome ∷ ASign OpenRound ∷ y) choices = operated SomeOf y (mark ReadsChoice CloseRound y (choices y))
-prefix_on (ASign OpenSquare ∷ ASign CloseSquare ∷ y) choices = found (square no_choices) y (ASign CloseSquare ∷ y, refl, refl)
+prefix_on (ASign OpenSquare ∷ ASign CloseSquare ∷ y) choices =
+    found (square no_choices) y (ASign CloseSquare ∷ y, refl, refl)
 prefix_on (ASign OpenSquare ∷ y) choices = tailed y (mark ReadsChoice Bar y (choices y)) choices
 prefix_on (Ident f ∷ ASign OpenRound ∷ y) choices = called f y (mark ReadsChoice CloseRound y (choices y))
 prefix_on (Ident f ∷ y) choices = found (name f) y refl
@@ -90,7 +98,8 @@ abbrev mutual
 
 -- ---- definitions and the module
 
-abbrev definition_on : (f s : Symbol) (y : List Token) → Found ReadsChoice y → Found ReadsDefined (Ident f ∷ ASign OpenRound ∷ Ident s ∷ ASign CloseRound ∷ ASign Equals ∷ y)
+abbrev definition_on : (f s : Symbol) (y : List Token) → Found ReadsChoice y
+    → Found ReadsDefined (Ident f ∷ ASign OpenRound ∷ Ident s ∷ ASign CloseRound ∷ ASign Equals ∷ y)
 definition_on f s y none = none
 definition_on f s y (found a v r) =
     found (definition (record { name = f; strategies = s ∷ []; terms = [] }) a) v (
@@ -98,7 +107,11 @@ definition_on f s y (found a v r) =
       (
         ASign OpenRound ∷ Ident s ∷ ASign CloseRound ∷ ASign Equals ∷ y,
         refl,
-        inl (Ident s ∷ ASign CloseRound ∷ ASign Equals ∷ y, refl, inl (refl, (ASign CloseRound ∷ ASign Equals ∷ y, refl, refl))),
+        inl (
+          Ident s ∷ ASign CloseRound ∷ ASign Equals ∷ y,
+          refl,
+          inl (refl, (ASign CloseRound ∷ ASign Equals ∷ y, refl, refl)),
+        ),
       ),
       (y, refl, r),
     )
@@ -107,11 +120,13 @@ abbrev defined : ℕ → Finds ReadsDefined
 defined n (Ident f ∷ ASign OpenRound ∷ Ident s ∷ ASign CloseRound ∷ ASign Equals ∷ y) = definition_on f s y (choice n y)
 defined n u = none
 
-abbrev and_all : (u : List Token) (d : Defined) (x : List Token) → ReadsDefined d u x → Found (ReadsAll ReadsDefined) x → Found (ReadsAll ReadsDefined) u
+abbrev and_all : (u : List Token) (d : Defined) (x : List Token) → ReadsDefined d u x → Found (ReadsAll ReadsDefined) x
+    → Found (ReadsAll ReadsDefined) u
 and_all u d x r none = none
 and_all u d x r (found ds v s) = found (d ∷ ds) v (x, r, s)
 
-abbrev all_on : (u : List Token) → Found ReadsDefined u → Finds (ReadsAll ReadsDefined) → Found (ReadsAll ReadsDefined) u
+abbrev all_on : (u : List Token) → Found ReadsDefined u → Finds (ReadsAll ReadsDefined)
+    → Found (ReadsAll ReadsDefined) u
 all_on u none rest = none
 all_on u (found d x r) rest = and_all u d x r (rest x)
 

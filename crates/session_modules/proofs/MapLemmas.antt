@@ -39,12 +39,15 @@ module _ {X : Type 0} where
   pub find_below : (q : List ℕ) (es : List (List ℕ × X)) → T (below_all R q es) → find R q es ≡ None
   find_below q [] h = refl
   find_below q (e ∷ es) h =
-      ap (λ (b : Bool). cond b (Some e.1) (find R q es)) (lower (R q e.0) (earlier _ (below_all R q es) h)) ∙ find_below q es (later (is_lt (R q e.0)) _ h)
+      ap (λ (b : Bool). cond b (Some e.1) (find R q es)) (lower (R q e.0) (earlier _ (below_all R q es) h))
+      ∙ find_below q es (later (is_lt (R q e.0)) _ h)
 
-  found_after : (e : List ℕ × X) (all ds : List (List ℕ × X)) → T (below_all R e.0 ds) → AllByRecursion (λ d. find R d.0 all ≡ Some d.1) ds → AllByRecursion (λ d. find R d.0 (e ∷ all) ≡ Some d.1) ds
+  found_after : (e : List ℕ × X) (all ds : List (List ℕ × X)) → T (below_all R e.0 ds)
+      → AllByRecursion (λ d. find R d.0 all ≡ Some d.1) ds → AllByRecursion (λ d. find R d.0 (e ∷ all) ≡ Some d.1) ds
   found_after e all [] h f = tt
   found_after e all (d ∷ ds) h f = (
-    ap (λ (b : Bool). cond b (Some e.1) (find R d.0 all)) (ap is_eq (nat_list_cmp_total.antisymm d.0 e.0) ∙ higher (R e.0 d.0) (earlier _ (below_all R e.0 ds) h)) ∙ f.0,
+    ap (λ (b : Bool). cond b (Some e.1) (find R d.0 all))
+        (ap is_eq (nat_list_cmp_total.antisymm d.0 e.0) ∙ higher (R e.0 d.0) (earlier _ (below_all R e.0 ds) h)) ∙ f.0,
     found_after e all ds (later (is_lt (R e.0 d.0)) _ h) f.1,
   )
 
@@ -56,14 +59,16 @@ module _ {X : Type 0} where
     found_after e es es (earlier _ (is_sorted R es) h) (found es (later (below_all R e.0 es) _ h)),
   )
 
-  there : (m : Named X) (es : List (List ℕ × X)) → AllByRecursion (λ e. find R e.0 (entries m) ≡ Some e.1) es → AllByRecursion (λ e. finmap.get m e.0 ≡ Some e.1) es
+  there : (m : Named X) (es : List (List ℕ × X)) → AllByRecursion (λ e. find R e.0 (entries m) ≡ Some e.1) es
+      → AllByRecursion (λ e. finmap.get m e.0 ≡ Some e.1) es
   there m [] h = tt
   there m (e ∷ es) h = (get-entries m e.0 ∙ h.0, there m es h.1)
 
   pub all_there : (m : Named X) → AllByRecursion (λ e. finmap.get m e.0 ≡ Some e.1) (entries m)
   all_there m = there m (entries m) (found (entries m) (entries_sorted m))
 
-  some : (m : Named X) (es : List (List ℕ × X)) → AllByRecursion (λ e. finmap.get m e.0 ≡ Some e.1) es → AllByRecursion (λ name. IsSome (finmap.get m name)) (map (λ e. e.0) es)
+  some : (m : Named X) (es : List (List ℕ × X)) → AllByRecursion (λ e. finmap.get m e.0 ≡ Some e.1) es
+      → AllByRecursion (λ name. IsSome (finmap.get m name)) (map (λ e. e.0) es)
   some m [] h = tt
   some m (e ∷ es) h = (subst (λ (o : Option X). IsSome o) (sym h.0) refl, some m es h.1)
 

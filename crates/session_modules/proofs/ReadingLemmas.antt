@@ -19,24 +19,33 @@ pub few_tokens : (n m : ℕ) → (m < n → ⊥) → n ≤ m
 few_tokens n m h = omega (arith, h)
 
 -- why a text isn't parsed, by what its parser says
-pub unread_as : {X : Type 0} (Gives : X → Type 0) (n most : ℕ) (r : Result X ParseFault) → (r ≡ Err TooDeep) ↔ (most < n) → (r ≡ Err NoSyntax → (x : X) → Gives x → ⊥)
-    → (fault : ParseFault) → r ≡ Err fault → (parse_refusal fault ≡ Memory) ⊎ ReadsWithin n most Gives Syntax (Err (parse_refusal fault))
+pub unread_as : {X : Type 0} (Gives : X → Type 0) (n most : ℕ) (r : Result X ParseFault)
+    → (r ≡ Err TooDeep) ↔ (most < n) → (r ≡ Err NoSyntax → (x : X) → Gives x → ⊥)
+    → (fault : ParseFault) → r ≡ Err fault
+    → (parse_refusal fault ≡ Memory) ⊎ ReadsWithin n most Gives Syntax (Err (parse_refusal fault))
 unread_as Gives n most r deep none TooDeep is = inr (inl (refl, deep.0 is))
-unread_as Gives n most r deep none NoSyntax is = inr (inr (refl, few_tokens n most (λ (more : most < n). let other : Err NoSyntax ≡ Err TooDeep = sym is ∙ deep.1 more in absurd (cc)), none is))
+unread_as Gives n most r deep none NoSyntax is = inr (inr (
+  refl,
+  few_tokens n most (λ (more : most < n). let other : Err NoSyntax ≡ Err TooDeep = sym is ∙ deep.1 more in absurd (cc)),
+  none is,
+))
 unread_as Gives n most r deep none NoParseMemory is = inl refl
 
 more-at : (few many : ℕ) → few ≤ many → (fit : Bool)
-    → cond fit (max MAX_TOKENS (min few MODULE_TOKENS)) MAX_TOKENS ≤ cond fit (max MAX_TOKENS (min many MODULE_TOKENS)) MAX_TOKENS
+    → cond fit (max MAX_TOKENS (min few MODULE_TOKENS)) MAX_TOKENS ≤ cond fit (max MAX_TOKENS (min many MODULE_TOKENS))
+    MAX_TOKENS
 more-at few many h true = grind (arith, nat_tests)
 more-at few many h false = omega arith
 
 any-at : (most : ℕ) (fit : Bool)
-    → cond fit (max MAX_TOKENS (min most MODULE_TOKENS)) MAX_TOKENS ≤ cond fit (max MAX_TOKENS (min MODULE_TOKENS MODULE_TOKENS)) MAX_TOKENS
+    → cond fit (max MAX_TOKENS (min most MODULE_TOKENS)) MAX_TOKENS ≤ cond fit
+    (max MAX_TOKENS (min MODULE_TOKENS MODULE_TOKENS)) MAX_TOKENS
 any-at most true = grind (arith, nat_tests)
 any-at most false = omega arith
 
 -- so many tokens are allowed whatever is asked for
-usual-at : (most n : ℕ) → n ≤ MAX_TOKENS → (fit : Bool) → n ≤ cond fit (max MAX_TOKENS (min most MODULE_TOKENS)) MAX_TOKENS
+usual-at : (most n : ℕ) → n ≤ MAX_TOKENS → (fit : Bool)
+    → n ≤ cond fit (max MAX_TOKENS (min most MODULE_TOKENS)) MAX_TOKENS
 usual-at most n h true = grind (arith, nat_tests)
 usual-at most n h false = h
 
@@ -58,7 +67,8 @@ module _ (s : Store) (name : List ℕ) (apart : HaveDistinctLabels s.modules) wh
   pub no_text : None ≡ slot_of s.modules name → None ≡ finmap.get (contents s).modules name
   no_text none = sym (module_of_name s name apart ∙ ap (option_and_then (content s.modules)) (sym none))
 
-  pub text_in : (i : ℕ) (x : Option (List ℕ)) → Some i ≡ slot_of s.modules name → x ≡ content s.modules i → x ≡ finmap.get (contents s).modules name
+  pub text_in : (i : ℕ) (x : Option (List ℕ)) → Some i ≡ slot_of s.modules name → x ≡ content s.modules i
+      → x ≡ finmap.get (contents s).modules name
   text_in i x here is = is ∙ sym (module_of_name s name apart ∙ ap (option_and_then (content s.modules)) (sym here))
 
 pub ruleset reading = (no_text, text_in)

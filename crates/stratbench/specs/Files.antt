@@ -25,7 +25,8 @@ SetsAll (named ∷ more) h g = (next : History) × LoadsFile (Module named) h ne
 -- These modules are set in a group, at whose end they are checked together. So they are one step.
 abbrev pub LoadsModules : List Named → History → History → Type 0
 LoadsModules modules h g =
-    (begun : History) × (whole : History) × ComesTo begin h (Ok begun) × SetsAll modules begun whole × ComesTo commit whole (Ok g)
+    (begun : History) × (whole : History) × ComesTo begin h (Ok begun) × SetsAll modules begun whole
+    × ComesTo commit whole (Ok g)
 
 -- The files that are left are loaded: each tree in its place, and all modules where the first of them
 -- stands, if that wasn't before.
@@ -34,7 +35,8 @@ LoadsRest modules done [] h g = g ≡ h
 LoadsRest modules done (Tree named ∷ loads) h g =
     (next : History) × LoadsFile (Tree named) h next × LoadsRest modules done loads next g
 LoadsRest modules true (Module named ∷ loads) h g = LoadsRest modules true loads h g
-LoadsRest modules false (Module named ∷ loads) h g = (next : History) × LoadsModules modules h next × LoadsRest modules true loads next g
+LoadsRest modules false (Module named ∷ loads) h g =
+    (next : History) × LoadsModules modules h next × LoadsRest modules true loads next g
 
 -- All files of the command line are loaded.
 abbrev pub LoadsAll : List Load → History → History → Type 0

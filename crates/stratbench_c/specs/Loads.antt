@@ -23,7 +23,8 @@ Loading = List ℕ → List ℕ → History → ActResult → Type 0
 
 -- The same where the name is bytes: those that are no label are refused.
 abbrev pub LoadsNamed : Loading → Loading
-LoadsNamed Loads name text h outcome = MatchOption (label_of name) (outcome ≡ Err Name) (λ label. Loads label text h outcome)
+LoadsNamed Loads name text h outcome =
+    MatchOption (label_of name) (outcome ≡ Err Name) (λ label. Loads label text h outcome)
 
 -- An accepted load leaves no answers; a refused one leaves the session as it was, and the refusal is
 -- the answer. Memory may be wanted.
@@ -63,12 +64,14 @@ TellsLibrary = TellsLoad SetsModule LIBRARY_NAME.now LIBRARY.now
 abbrev pub Shows : List ℕ → History → Result (List ℕ) Refusal → Type 0
 Shows name h outcome =
     MatchOption (label_of name) (outcome ≡ Err Name)
-    (λ label. MatchOption (finmap.get h.now.trees label) (outcome ≡ Err NoTree) (λ tree. outcome ≡ Ok (line (print tree))))
+    (λ label.
+    MatchOption (finmap.get h.now.trees label) (outcome ≡ Err NoTree) (λ tree. outcome ≡ Ok (line (print tree))))
 
 -- A text is the answer; or a refusal is. Memory may be wanted.
 abbrev pub Shown : (Result (List ℕ) Refusal → Type 0) → Status → List ℕ → Type 0
 Shown Tells Accepted answer = Tells (Ok answer)
-Shown Tells Refused answer = (refusal : Refusal) × ((refusal ≡ Memory) ⊎ Tells (Err refusal)) × TellsRefusal answer refusal
+Shown Tells Refused answer =
+    (refusal : Refusal) × ((refusal ≡ Memory) ⊎ Tells (Err refusal)) × TellsRefusal answer refusal
 Shown Tells Cut answer = ⊥
 Shown Tells NoMemory answer = ⊥
 Shown Tells Stopped answer = ⊥
@@ -76,7 +79,8 @@ Shown Tells Stopped answer = ⊥
 -- the same at a handle, where there may be no session
 abbrev pub ShownAt : List ℕ → Status → Option Work → Option Work → Type 0
 ShownAt name status (Some old) (Some new) =
-    (new.session ≡ old.session) × Shown (Shows name old.session) status new.answers × (new.ends.items ≡ []) × (new.stop ≡ old.stop)
+    (new.session ≡ old.session) × Shown (Shows name old.session) status new.answers
+    × (new.ends.items ≡ []) × (new.stop ≡ old.stop)
 ShownAt name status None None = status ≡ NoMemory
 ShownAt name status (Some old) None = ⊥
 ShownAt name status None (Some new) = ⊥

@@ -28,7 +28,8 @@ pub record Adds (Rule : Replying) (command : Handed) (h g : History) (old new : 
 
 -- all but what the runs of the session heed
 abbrev pub IsUntouched : Work → Work → Type 0
-IsUntouched old new = (new.session ≡ old.session) × (new.answers ≡ old.answers) × (new.ends ≡ old.ends) × (new.hints ≡ old.hints)
+IsUntouched old new =
+    (new.session ≡ old.session) × (new.answers ≡ old.answers) × (new.ends ≡ old.ends) × (new.hints ≡ old.hints)
 
 -- where the answers end that are written to these replies, one after the other from this place on
 abbrev pub ends_from : ℕ → List Reply → List ℕ
@@ -37,7 +38,8 @@ ends_from at (reply ∷ replies) = let end = at + length (written reply) in end 
 
 -- The commands are answered, this many of them by a refusal. These are all answers, one after the
 -- other, and where each of them ends.
-pub record AnswersAll (Rule : Replying) (commands : List Handed) (h g : History) (answers ends : List ℕ) (refused : ℕ) : Type 0 where
+pub record AnswersAll (Rule : Replying) (commands : List Handed) (h g : History) (answers ends : List ℕ)
+    (refused : ℕ) : Type 0 where
   pub flags : List Bool
   pub replies : List Reply
   pub replied : Replied false Rule commands flags h replies g
@@ -62,7 +64,8 @@ Ran framing steps script Accepted old new =
     AnswersAll (ReplyInRun extended steps) (handed framing script) old.session new.session new.answers new.ends.items 0
 Ran framing steps script Refused old new =
     (refused : ℕ) × (0 < refused)
-    × AnswersAll (ReplyInRun extended steps) (handed framing script) old.session new.session new.answers new.ends.items refused
+    × AnswersAll (ReplyInRun extended steps) (handed framing script) old.session new.session new.answers
+    new.ends.items refused
 Ran framing steps script Cut old new =
     AnswersSome (ReplyInRun extended steps) (handed framing script) old.session new.session new.answers new.ends.items
 Ran framing steps script NoMemory old new =
@@ -73,7 +76,8 @@ Ran framing steps script Stopped old new =
 
 -- the same at a handle, where there may be no session
 abbrev pub RanAt : Framing → ℕ → List ℕ → Status → Option Work → Option Work → Type 0
-RanAt framing steps script status (Some old) (Some new) = Ran framing steps script status old new × (new.stop ≡ old.stop)
+RanAt framing steps script status (Some old) (Some new) =
+    Ran framing steps script status old new × (new.stop ≡ old.stop)
 RanAt framing steps script status None None = status ≡ NoMemory
 RanAt framing steps script status (Some old) None = ⊥
 RanAt framing steps script status None (Some new) = ⊥
@@ -87,7 +91,8 @@ most_steps (Some work) = work.session.limits.max_steps
 abbrev pub TellsRun : Framing → ℕ → List ℕ → ℕ → Option Work → Option Work → Type 0
 TellsRun framing steps script code old new =
     ((code ≡ NO_BUDGET) × (IsBudget (most_steps old) steps → ⊥) × (new ≡ old))
-    ⊎ (IsBudget (most_steps old) steps × ((status : Status) × (code ≡ code_of status) × RanAt framing steps script status old new))
+    ⊎ (IsBudget (most_steps old) steps
+    × ((status : Status) × (code ≡ code_of status) × RanAt framing steps script status old new))
 
 -- a session without trees and modules that has these limits, and nothing was answered or said
 abbrev pub IsNewWithin : Limits → Work → Type 0
@@ -156,7 +161,8 @@ hints_of (Some work) = work.hints
 -- The session, its answers and its stopper stay.
 abbrev pub ExplainedAt : Status → Option Work → Option Work → Type 0
 ExplainedAt status (Some old) (Some new) =
-    (status ≡ Accepted) × (new.session ≡ old.session) × (new.answers ≡ old.answers) × (new.ends ≡ old.ends) × (new.stop ≡ old.stop)
+    (status ≡ Accepted) × (new.session ≡ old.session) × (new.answers ≡ old.answers) × (new.ends ≡ old.ends)
+    × (new.stop ≡ old.stop)
 ExplainedAt status None None = status ≡ NoMemory
 ExplainedAt status (Some old) None = ⊥
 ExplainedAt status None (Some new) = ⊥

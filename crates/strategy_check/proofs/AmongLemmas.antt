@@ -17,10 +17,13 @@ use Rattle.strategy_check.proofs.ReplacingLemmas.{not_among_first, among_new, sa
 
 -- ---- elements of lists and of modules
 
-module _ {X : Type 0} (same : X → X → Bool) (self : (x : X) → same x x ≡ true) (true_same : (x y : X) → same x y ≡ true → x ≡ y) where
-  among-new : (seen xs : List X) (x : X) → is_among same x (with_new same seen xs) ≡ (is_among same x seen || is_among same x xs)
+module _ {X : Type 0}
+    (same : X → X → Bool) (self : (x : X) → same x x ≡ true) (true_same : (x y : X) → same x y ≡ true → x ≡ y) where
+  among-new : (seen xs : List X) (x : X)
+      → is_among same x (with_new same seen xs) ≡ (is_among same x seen || is_among same x xs)
   among-new seen xs x = by (is_among same x xs) refl where
-    by : (b : Bool) → is_among same x xs ≡ b → is_among same x (with_new same seen xs) ≡ (is_among same x seen || is_among same x xs)
+    by : (b : Bool) → is_among same x xs ≡ b → is_among same x (with_new same seen xs)
+        ≡ (is_among same x seen || is_among same x xs)
     by true e = among_new same self true_same seen xs x e ∙ sym (or_right (is_among same x seen) (is_among same x xs) e)
     by false e =
         list_any-append (same x) seen (first_ones same seen xs)
@@ -33,21 +36,26 @@ module _ {X : Type 0} (same : X → X → Bool) (self : (x : X) → same x x ≡
       let h = or_parts (p y) (list_any p xs) none in
       by (or_cases (same x y) (is_among same x xs) t) h.0 (none-there p xs x h.1)
     where
-      by : (same x y ≡ true) ⊎ (is_among same x xs ≡ true) → p y ≡ false → (is_among same x xs ≡ true → p x ≡ false) → p x ≡ false
+      by : (same x y ≡ true) ⊎ (is_among same x xs ≡ true) → p y
+          ≡ false → (is_among same x xs ≡ true → p x ≡ false) → p x ≡ false
       by (inl t) here rest = ap p (true_same x y t) ∙ here
       by (inr t) here rest = rest t
 
   -- elements that each module has, and those of all modules
-  module _ (own : List ℕ × Module → List X) (whole : Modules → List X) (empty : (x : X) → is_among same x (whole []) ≡ false)
-      (next : (x : X) (m : List ℕ × Module) (ms : Modules) → is_among same x (whole (m ∷ ms)) ≡ (is_among same x (own m) || is_among same x (whole ms))) where
-    none-anywhere : (p : X → Bool) (ms : Modules) (x : X) → list_any (λ m. list_any p (own m)) ms ≡ false → is_among same x (whole ms) ≡ true → p x ≡ false
+  module _ (own : List ℕ × Module → List X) (whole : Modules → List X)
+      (empty : (x : X) → is_among same x (whole []) ≡ false)
+      (next : (x : X) (m : List ℕ × Module) (ms : Modules)
+      → is_among same x (whole (m ∷ ms)) ≡ (is_among same x (own m) || is_among same x (whole ms))) where
+    none-anywhere : (p : X → Bool) (ms : Modules) (x : X)
+        → list_any (λ m. list_any p (own m)) ms ≡ false → is_among same x (whole ms) ≡ true → p x ≡ false
     none-anywhere p [] x none t = absurd (false≢true (sym (empty x) ∙ t))
     none-anywhere p (m ∷ ms) x none t =
         let h = or_parts (list_any p (own m)) (list_any (λ m. list_any p (own m)) ms) none in
         by (or_cases (is_among same x (own m)) (is_among same x (whole ms)) (sym (next x m ms) ∙ t))
         (none-there p (own m) x h.0) (none-anywhere p ms x h.1)
       where
-        by : (is_among same x (own m) ≡ true) ⊎ (is_among same x (whole ms) ≡ true) → (is_among same x (own m) ≡ true → p x ≡ false) → (is_among same x (whole ms) ≡ true → p x ≡ false) → p x ≡ false
+        by : (is_among same x (own m) ≡ true) ⊎ (is_among same x (whole ms) ≡ true) → (is_among same x (own m)
+            ≡ true → p x ≡ false) → (is_among same x (whole ms) ≡ true → p x ≡ false) → p x ≡ false
         by (inl t) here rest = here t
         by (inr t) here rest = rest t
 
@@ -60,7 +68,8 @@ module _ {X : Type 0} (same : X → X → Bool) (self : (x : X) → same x x ≡
 abbrev pub has_key : DefinitionKey → Modules → Bool
 has_key k ms = is_among same_key k (keys_of (definitions_of ms))
 
-pub key-new : (seen ks : List DefinitionKey) (k : DefinitionKey) → is_among same_key k (with_new same_key seen ks) ≡ (is_among same_key k seen || is_among same_key k ks)
+pub key-new : (seen ks : List DefinitionKey) (k : DefinitionKey)
+    → is_among same_key k (with_new same_key seen ks) ≡ (is_among same_key k seen || is_among same_key k ks)
 key-new = among-new same_key same_key-self same_key-true
 
 key-table : (ms : Modules) (k : DefinitionKey) → is_among same_key k (table_of ms).definitions ≡ has_key k ms
@@ -68,25 +77,32 @@ key-table ms = key-new [] (keys_of (definitions_of ms))
 
 pub key-parts : (xs ys : Modules) (k : DefinitionKey) → has_key k (xs ++ ys) ≡ (has_key k xs || has_key k ys)
 key-parts xs ys k =
-    ap (is_among same_key k) (keys-append xs ys) ∙ list_any-append (same_key k) (keys_of (definitions_of xs)) (keys_of (definitions_of ys))
+    ap (is_among same_key k) (keys-append xs ys)
+    ∙ list_any-append (same_key k) (keys_of (definitions_of xs)) (keys_of (definitions_of ys))
 
-pub key-middle : (xs ys zs : Modules) (k : DefinitionKey) → is_among same_key k (table_of (xs ++ (ys ++ zs))).definitions ≡ (has_key k xs || (has_key k ys || has_key k zs))
+pub key-middle : (xs ys zs : Modules) (k : DefinitionKey)
+    → is_among same_key k (table_of (xs ++ (ys ++ zs))).definitions ≡ (has_key k xs || (has_key k ys || has_key k zs))
 key-middle xs ys zs k =
     key-table (xs ++ (ys ++ zs)) k ∙ key-parts xs (ys ++ zs) k ∙ ap (λ b. has_key k xs || b) (key-parts ys zs k)
 
-key-next : (k : DefinitionKey) (m : List ℕ × Module) (ms : Modules) → has_key k (m ∷ ms) ≡ (is_among same_key k (own_table m).definitions || has_key k ms)
+key-next : (k : DefinitionKey) (m : List ℕ × Module) (ms : Modules)
+    → has_key k (m ∷ ms) ≡ (is_among same_key k (own_table m).definitions || has_key k ms)
 key-next k m ms = key-parts (m ∷ []) ms k ∙ ap (λ b. b || has_key k ms) (sym (key-table (m ∷ []) k))
 
-pub key-module : (k : DefinitionKey) (m : List ℕ × Module) (ms : Modules) → has_key k (m ∷ ms) ≡ (is_among same_key k (keys_of m.1.definitions) || has_key k ms)
+pub key-module : (k : DefinitionKey) (m : List ℕ × Module) (ms : Modules)
+    → has_key k (m ∷ ms) ≡ (is_among same_key k (keys_of m.1.definitions) || has_key k ms)
 key-module k m ms =
     ap (is_among same_key k) (map-append key_of m.1.definitions (definitions_of ms))
     ∙ list_any-append (same_key k) (keys_of m.1.definitions) (keys_of (definitions_of ms))
 
-pub no-key : (p : DefinitionKey → Bool) (ms : Modules) (k : DefinitionKey) → list_any (λ m. list_any p (own_table m).definitions) ms ≡ false → has_key k ms ≡ true → p k ≡ false
-no-key = none-anywhere same_key same_key-self same_key-true (λ m. (own_table m).definitions) (λ ms. keys_of (definitions_of ms)) (λ k. refl) key-next
+pub no-key : (p : DefinitionKey → Bool) (ms : Modules) (k : DefinitionKey)
+    → list_any (λ m. list_any p (own_table m).definitions) ms ≡ false → has_key k ms ≡ true → p k ≡ false
+no-key = none-anywhere same_key same_key-self same_key-true (λ m. (own_table m).definitions)
+    (λ ms. keys_of (definitions_of ms)) (λ k. refl) key-next
 
 pub some-key : (ms : Modules) (k : DefinitionKey) → list_any (defines_key k) ms ≡ has_key k ms
-some-key = some-has same_key same_key-self same_key-true (λ m. (own_table m).definitions) (λ ms. keys_of (definitions_of ms)) (λ k. refl) key-next
+some-key = some-has same_key same_key-self same_key-true (λ m. (own_table m).definitions)
+    (λ ms. keys_of (definitions_of ms)) (λ k. refl) key-next
 
 -- ---- constructors
 
@@ -98,25 +114,34 @@ same_constructor-true c d e =
 abbrev pub has_constructor : Constructor → Modules → Bool
 has_constructor c ms = is_among same_constructor c (constructors_of ms)
 
-constructor-table : (ms : Modules) (c : Constructor) → is_among same_constructor c (table_of ms).constructors ≡ has_constructor c ms
+constructor-table : (ms : Modules) (c : Constructor)
+    → is_among same_constructor c (table_of ms).constructors ≡ has_constructor c ms
 constructor-table ms = among-new same_constructor same_constructor-self same_constructor-true [] (constructors_of ms)
 
-constructor-parts : (xs ys : Modules) (c : Constructor) → has_constructor c (xs ++ ys) ≡ (has_constructor c xs || has_constructor c ys)
+constructor-parts : (xs ys : Modules) (c : Constructor)
+    → has_constructor c (xs ++ ys) ≡ (has_constructor c xs || has_constructor c ys)
 constructor-parts xs ys c =
     ap (is_among same_constructor c) (flat_map-append (λ m. m.1.constructors) xs ys)
     ∙ list_any-append (same_constructor c) (constructors_of xs) (constructors_of ys)
 
 pub constructor-middle : (xs ys zs : Modules) (c : Constructor)
-    → is_among same_constructor c (table_of (xs ++ (ys ++ zs))).constructors ≡ (has_constructor c xs || (has_constructor c ys || has_constructor c zs))
+    → is_among same_constructor c (table_of (xs ++ (ys ++ zs))).constructors
+    ≡ (has_constructor c xs || (has_constructor c ys || has_constructor c zs))
 constructor-middle xs ys zs c =
-    constructor-table (xs ++ (ys ++ zs)) c ∙ constructor-parts xs (ys ++ zs) c ∙ ap (λ b. has_constructor c xs || b) (constructor-parts ys zs c)
+    constructor-table (xs ++ (ys ++ zs)) c ∙ constructor-parts xs (ys ++ zs) c
+    ∙ ap (λ b. has_constructor c xs || b) (constructor-parts ys zs c)
 
-pub no-constructor : (p : Constructor → Bool) (ms : Modules) (c : Constructor) → list_any (λ m. list_any p (own_table m).constructors) ms ≡ false → has_constructor c ms ≡ true → p c ≡ false
+pub no-constructor : (p : Constructor → Bool) (ms : Modules) (c : Constructor)
+    → list_any (λ m. list_any p (own_table m).constructors) ms ≡ false → has_constructor c ms ≡ true → p c ≡ false
 no-constructor =
-    none-anywhere same_constructor same_constructor-self same_constructor-true (λ m. (own_table m).constructors) constructors_of (λ c. refl)
-    (λ c m ms. constructor-parts (m ∷ []) ms c ∙ ap (λ b. b || has_constructor c ms) (sym (constructor-table (m ∷ []) c)))
+    none-anywhere same_constructor same_constructor-self same_constructor-true (λ m. (own_table m).constructors)
+    constructors_of (λ c. refl)
+    (λ c m ms. constructor-parts (m ∷ []) ms c
+    ∙ ap (λ b. b || has_constructor c ms) (sym (constructor-table (m ∷ []) c)))
 
-pub no-declaration : (p : Constructor → Bool) (ms : Modules) (c : Constructor) → list_any (λ m. list_any p m.1.constructors) ms ≡ false → has_constructor c ms ≡ true → p c ≡ false
+pub no-declaration : (p : Constructor → Bool) (ms : Modules) (c : Constructor)
+    → list_any (λ m. list_any p m.1.constructors) ms ≡ false → has_constructor c ms ≡ true → p c ≡ false
 no-declaration =
-    none-anywhere same_constructor same_constructor-self same_constructor-true (λ m. m.1.constructors) constructors_of (λ c. refl)
+    none-anywhere same_constructor same_constructor-self same_constructor-true (λ m. m.1.constructors) constructors_of
+    (λ c. refl)
     (λ c m ms. list_any-append (same_constructor c) m.1.constructors (constructors_of ms))

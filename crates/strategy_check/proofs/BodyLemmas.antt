@@ -33,46 +33,61 @@ abbrev then_strategies : ResolvedStrategies → ResolvedStrategies → ResolvedS
 then_strategies no_strategies rs = rs
 then_strategies (and_strategy q qs) rs = and_strategy q (then_strategies qs rs)
 
-resolveds_of-append : (qs rs : List ResolvedStrategy) → resolveds_of (qs ++ rs) ≡ then_strategies (resolveds_of qs) (resolveds_of rs)
+resolveds_of-append : (qs rs : List ResolvedStrategy)
+    → resolveds_of (qs ++ rs) ≡ then_strategies (resolveds_of qs) (resolveds_of rs)
 resolveds_of-append [] rs = refl
 resolveds_of-append (q ∷ qs) rs = ap (and_strategy q) (resolveds_of-append qs rs)
 
 module _ (T : Table) (P : Primitives) (E : Scope) where
-  resolved-append : (ss ts : List Strategy) → resolved_strategies T P E (strategies_of (ss ++ ts)) ≡ then_strategies (resolved_strategies T P E (strategies_of ss)) (resolved_strategies T P E (strategies_of ts))
+  resolved-append : (ss ts : List Strategy) → resolved_strategies T P E (strategies_of (ss ++ ts))
+      ≡ then_strategies (resolved_strategies T P E (strategies_of ss)) (resolved_strategies T P E (strategies_of ts))
   resolved-append [] ts = refl
   resolved-append (s ∷ ss) ts = ap (and_strategy (resolved_strategy T P E s)) (resolved-append ss ts)
 
   -- one more strategy
-  pub resolved-next : (ss : List Strategy) (made more : List ResolvedStrategy) (r : ResolvedStrategy) (i : ℕ) (s : Strategy) → i < length ss → s ≡ get_or ss i s
-      → resolveds_of made ≡ resolved_strategies T P E (strategies_of (take i ss)) → more ≡ made ++ r ∷ [] → r ≡ resolved_strategy T P E s
+  pub resolved-next : (ss : List Strategy) (made more : List ResolvedStrategy) (r : ResolvedStrategy) (i : ℕ)
+      (s : Strategy) → i < length ss → s ≡ get_or ss i s
+      → resolveds_of made ≡ resolved_strategies T P E (strategies_of (take i ss))
+      → more ≡ made ++ r ∷ [] → r ≡ resolved_strategy T P E s
       → resolveds_of more ≡ resolved_strategies T P E (strategies_of (take (i + 1) ss))
   resolved-next ss made more r i s lt at same e is =
       rw add-one (ap resolveds_of e ∙ resolveds_of-append made (r ∷ [])
       ∙ (λ j. then_strategies (same j) (and_strategy (is j) no_strategies))
       ∙ sym (resolved-append (take i ss) (s ∷ []))
-      ∙ ap (λ l. resolved_strategies T P E (strategies_of l)) (ap (λ q. take i ss ++ q ∷ []) at ∙ sym (take-suc ss i s lt)))
+      ∙ ap (λ l. resolved_strategies T P E (strategies_of l))
+      (ap (λ q. take i ss ++ q ∷ []) at ∙ sym (take-suc ss i s lt)))
 
 -- ---- names with strategies and terms
 
-resolved_pattern_count : (bs : List Binder) (ps : Patterns) → length (resolved_pattern_list (resolved_patterns bs ps)) ≡ length (pattern_list ps)
+resolved_pattern_count : (bs : List Binder) (ps : Patterns)
+    → length (resolved_pattern_list (resolved_patterns bs ps)) ≡ length (pattern_list ps)
 resolved_pattern_count bs no_patterns = refl
 resolved_pattern_count bs (and_pattern p ps) = ap suc (resolved_pattern_count bs ps)
 
-resolved_count : (T : Table) (P : Primitives) (E : Scope) (ss : Strategies) → length (resolved_list (resolved_strategies T P E ss)) ≡ length (strategy_list ss)
+resolved_count : (T : Table) (P : Primitives) (E : Scope) (ss : Strategies)
+    → length (resolved_list (resolved_strategies T P E ss)) ≡ length (strategy_list ss)
 resolved_count T P E syntax.no_strategies = refl
 resolved_count T P E (syntax.and_strategy s ss) = ap suc (resolved_count T P E ss)
 
-module _ (T : Table) (P : Primitives) (E F : Scope) (f : Symbol) (ss : List Strategy) (ps : List Pattern) (rs : List ResolvedStrategy) (qs : List ResolvedPattern) where
-  pub used : {X : Type 0} (r : Result ResolvedForm X) (s : Strategy) → s ≡ uses f (strategies_of ss) (patterns_of ps) → F ≡ E
-      → resolveds_of rs ≡ resolved_strategies T P E (strategies_of ss) → resolved_patterns_of qs ≡ resolved_patterns F.variables (patterns_of ps)
-      → IfOk r (λ form. resolved_of form ≡ name_or_other (binder_number f F.names) (definition_or_constructor f (definition_number T f (length rs) (length qs)) (resolveds_of rs) (resolved_patterns_of qs)))
+module _ (T : Table) (P : Primitives) (E F : Scope) (f : Symbol) (ss : List Strategy) (ps : List Pattern)
+    (rs : List ResolvedStrategy) (qs : List ResolvedPattern) where
+  pub used : {X : Type 0} (r : Result ResolvedForm X) (s : Strategy)
+      → s ≡ uses f (strategies_of ss) (patterns_of ps) → F ≡ E
+      → resolveds_of rs ≡ resolved_strategies T P E (strategies_of ss)
+      → resolved_patterns_of qs ≡ resolved_patterns F.variables (patterns_of ps)
+      → IfOk r (λ form. resolved_of form ≡ name_or_other (binder_number f F.names) (definition_or_constructor f
+      (definition_number T f (length rs) (length qs)) (resolveds_of rs) (resolved_patterns_of qs)))
       → IfOk r (λ form. resolved_of form ≡ resolved_strategy T P E s)
   used r s is same parts terms h =
-      let scopes : resolved_patterns_of qs ≡ resolved_patterns E.variables (patterns_of ps) = terms ∙ ap (λ G. resolved_patterns G.variables (patterns_of ps)) same in
+      let scopes : resolved_patterns_of qs ≡ resolved_patterns E.variables (patterns_of ps) = terms
+      ∙ ap (λ G. resolved_patterns G.variables (patterns_of ps)) same in
       let part_count : length rs ≡ length (strategy_list (strategies_of ss)) =
-      ap length (sym (resolved_list-resolveds_of rs)) ∙ ap (λ l. length (resolved_list l)) parts ∙ resolved_count T P E (strategies_of ss) in
+      ap length (sym (resolved_list-resolveds_of rs)) ∙ ap (λ l. length (resolved_list l)) parts
+      ∙ resolved_count T P E (strategies_of ss) in
       let term_count : length qs ≡ length (pattern_list (patterns_of ps)) =
-      ap length (sym (resolved_pattern_list-of qs)) ∙ ap (λ l. length (resolved_pattern_list l)) scopes ∙ resolved_pattern_count E.variables (patterns_of ps) in
+      ap length (sym (resolved_pattern_list-of qs)) ∙ ap (λ l. length (resolved_pattern_list l)) scopes
+      ∙ resolved_pattern_count E.variables (patterns_of ps) in
       subst (λ t. IfOk r (λ form. resolved_of form ≡ t))
-      ((λ i. name_or_other (binder_number f (same i).names) (definition_or_constructor f (definition_number T f (part_count i) (term_count i)) (parts i) (scopes i)))
+      ((λ i. name_or_other (binder_number f (same i).names)
+      (definition_or_constructor f (definition_number T f (part_count i) (term_count i)) (parts i) (scopes i)))
       ∙ sym (ap (resolved_strategy T P E) is)) h

@@ -10,16 +10,19 @@ use Rattle.strategy_check.specs.inside.Changing.{with_module, with_all}
 use Rattle.strategy_check.proofs.ListLemmas.{with_new-append, with_new-none}
 
 module _ {X : Type 0} (f : X → Bool) (xs : List X) (i : ℕ) where
-  at : (x : X) → i < length xs → x ≡ get_or xs i x → list_any f (drop i xs) ≡ list_any f xs → (f x || list_any f (drop (suc i) xs)) ≡ list_any f xs
+  at : (x : X) → i < length xs → x ≡ get_or xs i x → list_any f (drop i xs) ≡ list_any f xs
+      → (f x || list_any f (drop (suc i) xs)) ≡ list_any f xs
   at x lt same rest =
       ap (λ y. f y || list_any f (drop (suc i) xs)) same ∙ sym (ap (list_any f) (drop-cons xs i x lt)) ∙ rest
 
   -- the element at i passes the test
-  pub any_found : (x : X) → i < length xs → x ≡ get_or xs i x → list_any f (drop i xs) ≡ list_any f xs → f x ≡ true → true ≡ list_any f xs
+  pub any_found : (x : X) → i < length xs → x ≡ get_or xs i x → list_any f (drop i xs) ≡ list_any f xs
+      → f x ≡ true → true ≡ list_any f xs
   any_found x lt same rest e = sym (ap (λ b. b || list_any f (drop (suc i) xs)) e) ∙ at x lt same rest
 
   -- it doesn't
-  pub any_next : (x : X) → i < length xs → x ≡ get_or xs i x → list_any f (drop i xs) ≡ list_any f xs → f x ≡ false → list_any f (drop (i + 1) xs) ≡ list_any f xs
+  pub any_next : (x : X) → i < length xs → x ≡ get_or xs i x → list_any f (drop i xs) ≡ list_any f xs
+      → f x ≡ false → list_any f (drop (i + 1) xs) ≡ list_any f xs
   any_next x lt same rest e = rw add-one (sym (ap (λ b. b || list_any f (drop (suc i) xs)) e) ∙ at x lt same rest)
 
   -- none is left
@@ -55,16 +58,20 @@ module _ {X : Type 0} (f : X → X) where
   partly-length zero (x ∷ xs) = refl
   partly-length (suc i) (x ∷ xs) = ap suc (partly-length i xs)
 
-  pub partly-set : (i : ℕ) (xs : List X) (d : X) → i < length xs → slice_set (partly i xs) i (f (get_or xs i d)) ≡ partly (suc i) xs
+  pub partly-set : (i : ℕ) (xs : List X) (d : X) → i < length xs
+      → slice_set (partly i xs) i (f (get_or xs i d)) ≡ partly (suc i) xs
   partly-set i [] d h = absurd (omega (arith, h))
   partly-set zero (x ∷ xs) d h = ap (λ ys. f x ∷ ys) (partly-none xs)
   partly-set (suc i) (x ∷ xs) d h = ap (λ ys. f x ∷ ys) (partly-set i xs d (omega (arith, h)))
 
 -- ---- tables
 
-pub with_all-next : (T : Table) (m : List ℕ × Module) (ms : Modules) → with_all T (m ∷ ms) ≡ with_all (with_module T m.1) ms
+pub with_all-next : (T : Table) (m : List ℕ × Module) (ms : Modules)
+    → with_all T (m ∷ ms) ≡ with_all (with_module T m.1) ms
 with_all-next T m ms i = record {
-  definitions = (ap (with_new same_key T.definitions) (map-append key_of m.1.definitions (definitions_of ms)) ∙ with_new-append same_key T.definitions (keys_of m.1.definitions) (keys_of (definitions_of ms))) i;
+  definitions =
+      (ap (with_new same_key T.definitions) (map-append key_of m.1.definitions (definitions_of ms))
+      ∙ with_new-append same_key T.definitions (keys_of m.1.definitions) (keys_of (definitions_of ms))) i;
   constructors = with_new-append same_constructor T.constructors m.1.constructors (constructors_of ms) i;
 }
 
@@ -74,4 +81,5 @@ with_all-append T [] ns = sym (ap (λ U. with_all U ns) (λ i. record {
   constructors = with_new-none same_constructor T.constructors i;
 }))
 with_all-append T (m ∷ ms) ns =
-    with_all-next T m (ms ++ ns) ∙ with_all-append (with_module T m.1) ms ns ∙ ap (λ U. with_all U ns) (sym (with_all-next T m ms))
+    with_all-next T m (ms ++ ns) ∙ with_all-append (with_module T m.1) ms ns
+    ∙ ap (λ U. with_all U ns) (sym (with_all-next T m ms))

@@ -15,12 +15,14 @@ filter-append : (p : Definition → Bool) (ds es : List Definition) → filter p
 filter-append p [] es = refl
 filter-append p (d ∷ ds) es = by (p d) (filter-append p ds es) where
   by : (b : Bool) → filter p (ds ++ es) ≡ filter p ds ++ filter p es
-      → (if b then d ∷ filter p (ds ++ es) else filter p (ds ++ es)) ≡ (if b then d ∷ filter p ds else filter p ds) ++ filter p es
+      → (if b then d ∷ filter p (ds ++ es) else filter p (ds ++ es)) ≡ (if b then d ∷ filter p ds else filter p ds)
+      ++ filter p es
   by true rest = ap (λ l. d ∷ l) rest
   by false rest = rest
 
 module _ (T : Table) (ds : List Definition) (d : Definition) where
-  of_number-last : (i : ℕ) (b : Bool) → is_number i (number T d) ≡ b → of_number T (ds ++ d ∷ []) i ≡ of_number T ds i ++ (if b then d ∷ [] else [])
+  of_number-last : (i : ℕ) (b : Bool)
+      → is_number i (number T d) ≡ b → of_number T (ds ++ d ∷ []) i ≡ of_number T ds i ++ (if b then d ∷ [] else [])
   of_number-last i b e =
       filter-append (λ d. is_number i (number T d)) ds (d ∷ [])
       ∙ ap (λ b. of_number T ds i ++ (if b then d ∷ [] else [])) e
@@ -29,9 +31,11 @@ module _ (T : Table) (ds : List Definition) (d : Definition) where
   other : (i : ℕ) → is_number i (number T d) ≡ false → of_number T (ds ++ d ∷ []) i ≡ of_number T ds i
   other i e = of_number-last i false e ∙ append-nil (of_number T ds i)
 
-  others : (i : ℕ) (ks : List DefinitionKey) → ((j : ℕ) → is_number (i + j) (number T d) ≡ false) → groups_from T (ds ++ d ∷ []) i ks ≡ groups_from T ds i ks
+  others : (i : ℕ) (ks : List DefinitionKey)
+      → ((j : ℕ) → is_number (i + j) (number T d) ≡ false) → groups_from T (ds ++ d ∷ []) i ks ≡ groups_from T ds i ks
   others i [] none = refl
-  others i (k ∷ ks) none = λ l. other i (ap (λ n. is_number n (number T d)) (omega arith) ∙ none 0) l ∷ others (i + 1) ks (λ j. ap (λ n. is_number n (number T d)) (omega arith) ∙ none (1 + j)) l
+  others i (k ∷ ks) none = λ l. other i (ap (λ n. is_number n (number T d)) (omega arith) ∙ none 0) l
+      ∷ others (i + 1) ks (λ j. ap (λ n. is_number n (number T d)) (omega arith) ∙ none (1 + j)) l
 
   same-number : (n : ℕ) → (n == n) ≡ true
   same-number n = search rules
@@ -39,7 +43,8 @@ module _ (T : Table) (ds : List Definition) (d : Definition) where
   more-number : (i j : ℕ) → (i == i + suc j) ≡ false
   more-number i j = grind (arith, nat_tests)
 
-  added : (i j : ℕ) (ks : List DefinitionKey) → number T d ≡ Some (i + j) → groups_from T (ds ++ d ∷ []) i ks ≡ with_member j d (groups_from T ds i ks)
+  added : (i j : ℕ) (ks : List DefinitionKey)
+      → number T d ≡ Some (i + j) → groups_from T (ds ++ d ∷ []) i ks ≡ with_member j d (groups_from T ds i ks)
   added i j [] e = refl
   added i zero (k ∷ ks) e = λ l.
       (of_number-last i true (ap (is_number i) e ∙ ap (λ n. i == n) (omega arith) ∙ same-number i)) l
@@ -64,7 +69,8 @@ module _ (T : Table) where
       ap (groups T) (sym (append_assoc ds (e ∷ []) es)) ∙ groups-append (ds ++ e ∷ []) es
       ∙ ap (λ gs. with_definitions T gs es) (groups-last T ds e)
 
-  pub with_definitions-append : (gs : List (List Definition)) (ds es : List Definition) → with_definitions T gs (ds ++ es) ≡ with_definitions T (with_definitions T gs ds) es
+  pub with_definitions-append : (gs : List (List Definition)) (ds es : List Definition)
+      → with_definitions T gs (ds ++ es) ≡ with_definitions T (with_definitions T gs ds) es
   with_definitions-append gs [] es = refl
   with_definitions-append gs (d ∷ ds) es = with_definitions-append (with_definition T gs d) ds es
 
@@ -77,14 +83,16 @@ module _ (T : Table) where
   all_grouped ds = ap (λ gs. with_definitions T gs ds) (sym (empty_from 0 T.definitions)) ∙ sym (groups-append [] ds)
 
 -- the last two bodies as one
-pub joined-last : (rs : List ResolvedStrategy) (r q : ResolvedStrategy) → joined (rs ++ guard r id q ∷ []) ≡ joined (rs ++ (r ∷ (q ∷ [])))
+pub joined-last : (rs : List ResolvedStrategy) (r q : ResolvedStrategy)
+    → joined (rs ++ guard r id q ∷ []) ≡ joined (rs ++ (r ∷ (q ∷ [])))
 joined-last [] r q = refl
 joined-last (a ∷ []) r q = refl
 joined-last (a ∷ (b ∷ rs)) r q = ap (guard a id) (joined-last (b ∷ rs) r q)
 
 -- ---- a group that is borrowed
 
-pub set_member : (i : ℕ) (d : Definition) (gs : List (List Definition)) (g : List Definition) → slice_get gs i ≡ Some g → slice_set gs i (g ++ d ∷ []) ≡ with_member i d gs
+pub set_member : (i : ℕ) (d : Definition) (gs : List (List Definition)) (g : List Definition) → slice_get gs i ≡ Some g
+    → slice_set gs i (g ++ d ∷ []) ≡ with_member i d gs
 set_member i d [] g e = absurd (cc)
 set_member zero d (h ∷ gs) g e = let same : h ≡ g = cc in ap (λ l. (l ++ d ∷ []) ∷ gs) (sym same)
 set_member (suc i) d (h ∷ gs) g e = ap (λ l. h ∷ l) (set_member i d gs g e)

@@ -88,13 +88,15 @@ more_key M f n m = record {
 more_constructor : (M : Table) (f : Symbol) (n : ℕ) → HasMore M (with_constructor M f n)
 more_constructor M f n = record {
   definitions = λ g i j e. e;
-  constructors = λ g i e. among-insert same_constructor M.constructors (record { name = f; arity = n }) (record { name = g; arity = i }) e;
+  constructors = λ g i e.
+      among-insert same_constructor M.constructors (record { name = f; arity = n }) (record { name = g; arity = i }) e;
 }
 
 key_there : (M : Table) (f : Symbol) (n m : ℕ) → is_defined (with_key M f n m) f n m ≡ true
 key_there M f n m =
     let k : DefinitionKey = record { name = f; strategies = n; terms = m } in
-    position-among (same_key k) (insert_key same_key M.definitions k) ∙ inserted same_key M.definitions k (same_key-self k)
+    position-among (same_key k) (insert_key same_key M.definitions k)
+    ∙ inserted same_key M.definitions k (same_key-self k)
 
 constructor_there : (M : Table) (f : Symbol) (n : ℕ) → is_declared (with_constructor M f n) f n ≡ true
 constructor_there M f n =
@@ -185,10 +187,12 @@ mutual
   more_strategy names M fail = same_more M
   more_strategy names M (matches p) = more_pattern M p
   more_strategy names M (builds p) = more_pattern M p
-  more_strategy names M (seq r s) = then_more (more_strategy names M r) (more_strategy names (mentioned_in_strategy names M r) s)
+  more_strategy names M (seq r s) =
+      then_more (more_strategy names M r) (more_strategy names (mentioned_in_strategy names M r) s)
   more_strategy names M (guard q r s) =
       let N = mentioned_in_strategy names M q in
-      then_more (more_strategy names M q) (then_more (more_strategy names N r) (more_strategy names (mentioned_in_strategy names N r) s))
+      then_more (more_strategy names M q)
+      (then_more (more_strategy names N r) (more_strategy names (mentioned_in_strategy names N r) s))
   more_strategy names M (test s) = more_strategy names M s
   more_strategy names M (scope xs s) = more_strategy names M s
   more_strategy names M (uses f ss ps) =
@@ -196,9 +200,11 @@ mutual
       let n = length (strategy_list ss) in
       let m = length (pattern_list ps) in
       let N = mentioned_by_name M b f n m in
-      then_more (more_name M b f n m) (then_more (more_strategies names N ss) (more_patterns (mentioned_in_strategies names N ss) ps))
+      then_more (more_name M b f n m)
+      (then_more (more_strategies names N ss) (more_patterns (mentioned_in_strategies names N ss) ps))
   more_strategy names M (congruence h ss) = more_strategies names M ss
-  more_strategy names M (tail_congruence ss s) = then_more (more_strategies names M ss) (more_strategy names (mentioned_in_strategies names M ss) s)
+  more_strategy names M (tail_congruence ss s) =
+      then_more (more_strategies names M ss) (more_strategy names (mentioned_in_strategies names M ss) s)
   more_strategy names M (all s) = more_strategy names M s
   more_strategy names M (one s) = more_strategy names M s
   more_strategy names M (some s) = more_strategy names M s
@@ -208,7 +214,8 @@ mutual
 
   more_strategies : (names : List Binder) (M : Table) (ss : Strategies) → HasMore M (mentioned_in_strategies names M ss)
   more_strategies names M no_strategies = same_more M
-  more_strategies names M (and_strategy s ss) = then_more (more_strategy names M s) (more_strategies names (mentioned_in_strategy names M s) ss)
+  more_strategies names M (and_strategy s ss) =
+      then_more (more_strategy names M s) (more_strategies names (mentioned_in_strategy names M s) ss)
 
 more_bodies : (M : Table) (ds : List Definition) → HasMore M (mentioned_in_bodies M ds)
 more_bodies M [] = same_more M
@@ -249,7 +256,8 @@ name_covered M true f n m = tt
 name_covered M false f n m = (key_there M f n m, constructor_there (with_key M f n m) f n)
 
 mutual
-  strategy_covered : (names : List Binder) (M : Table) (s : Strategy) → Covered (mentioned_in_strategy names M s) names s
+  strategy_covered : (names : List Binder) (M : Table) (s : Strategy)
+      → Covered (mentioned_in_strategy names M s) names s
   strategy_covered names M id = tt
   strategy_covered names M fail = tt
   strategy_covered names M (matches p) = pattern_covered M p
@@ -285,7 +293,8 @@ mutual
   strategy_covered names M (rec f s) = strategy_covered (record { name = f; number = length names } ∷ names) M s
   strategy_covered names M (prim n ps) = patterns_covered M ps
 
-  strategies_covered : (names : List Binder) (M : Table) (ss : Strategies) → AllCovered (mentioned_in_strategies names M ss) names ss
+  strategies_covered : (names : List Binder) (M : Table) (ss : Strategies)
+      → AllCovered (mentioned_in_strategies names M ss) names ss
   strategies_covered names M no_strategies = tt
   strategies_covered names M (and_strategy s ss) =
       let N = mentioned_in_strategy names M s in
@@ -312,7 +321,8 @@ Faultless T P (d ∷ ds) = (strategy_faults T P (parameter_names d) d.body ≡ [
 module _ (M T T' : Table) (keeps : Keeps M T T') where
   kept-head : (h : Head) (n : ℕ) → HeadCovered M h n → head_faults T h n ≡ [] → head_faults T' h n ≡ []
   kept-head (application f) n covered e = by f.is_quoted (is_declared T f n) refl e where
-    by : (q b : Bool) → is_declared T f n ≡ b → fault_if (not q && not b) Undeclared f n 0 ≡ [] → fault_if (not q && not (is_declared T' f n)) Undeclared f n 0 ≡ []
+    by : (q b : Bool) → is_declared T f n ≡ b → fault_if (not q && not b) Undeclared f n 0
+        ≡ [] → fault_if (not q && not (is_declared T' f n)) Undeclared f n 0 ≡ []
     by true b there e = refl
     by false true there e = ap (λ b. fault_if (not b) Undeclared f n 0) (keeps.constructors f n covered there)
     by false false there e = absurd (cc)
@@ -321,28 +331,35 @@ module _ (M T T' : Table) (keeps : Keeps M T T') where
 
   module _ (building : Bool) where
     mutual
-      kept-pattern : (p : Pattern) → PatternCovered M p → pattern_faults T building p ≡ [] → pattern_faults T' building p ≡ []
+      kept-pattern : (p : Pattern) → PatternCovered M p
+          → pattern_faults T building p ≡ [] → pattern_faults T' building p ≡ []
       kept-pattern wildcard covered e = e
       kept-pattern (variable x) covered e = refl
       kept-pattern (at x p) covered e =
-          both_none (fault_if building Wild x 0 0) (pattern_faults T building p) (fault_if building Wild x 0 0) (pattern_faults T' building p)
+          both_none (fault_if building Wild x 0 0) (pattern_faults T building p) (fault_if building Wild x 0 0)
+          (pattern_faults T' building p)
           (λ e. e) (kept-pattern p covered) e
       kept-pattern (number z) covered e = refl
       kept-pattern (compound h ps) covered e =
           let n = length (pattern_list ps) in
-          both_none (head_faults T h n) (faults_of_patterns T building ps) (head_faults T' h n) (faults_of_patterns T' building ps)
+          both_none (head_faults T h n) (faults_of_patterns T building ps) (head_faults T' h n)
+          (faults_of_patterns T' building ps)
           (kept-head h n covered.0) (kept-patterns ps covered.1) e
       kept-pattern (with_tail ps p) covered e =
-          both_none (faults_of_patterns T building ps) (pattern_faults T building p) (faults_of_patterns T' building ps) (pattern_faults T' building p)
+          both_none (faults_of_patterns T building ps) (pattern_faults T building p) (faults_of_patterns T' building ps)
+          (pattern_faults T' building p)
           (kept-patterns ps covered.0) (kept-pattern p covered.1) e
       kept-pattern (annotated p ps) covered e =
-          both_none (pattern_faults T building p) (faults_of_patterns T building ps) (pattern_faults T' building p) (faults_of_patterns T' building ps)
+          both_none (pattern_faults T building p) (faults_of_patterns T building ps) (pattern_faults T' building p)
+          (faults_of_patterns T' building ps)
           (kept-pattern p covered.0) (kept-patterns ps covered.1) e
 
-      kept-patterns : (ps : Patterns) → PatternsCovered M ps → faults_of_patterns T building ps ≡ [] → faults_of_patterns T' building ps ≡ []
+      kept-patterns : (ps : Patterns) → PatternsCovered M ps
+          → faults_of_patterns T building ps ≡ [] → faults_of_patterns T' building ps ≡ []
       kept-patterns no_patterns covered e = refl
       kept-patterns (and_pattern p ps) covered e =
-          both_none (pattern_faults T building p) (faults_of_patterns T building ps) (pattern_faults T' building p) (faults_of_patterns T' building ps)
+          both_none (pattern_faults T building p) (faults_of_patterns T building ps) (pattern_faults T' building p)
+          (faults_of_patterns T' building ps)
           (kept-pattern p covered.0) (kept-patterns ps covered.1) e
 
   kept-name : (names : List Binder) (f : Symbol) (n m : ℕ) → NameCovered M (is_some (binder_number f names)) f n m
@@ -356,7 +373,8 @@ module _ (M T T' : Table) (keeps : Keeps M T T') where
     outside true z c defined declared covered e =
         ap (λ d. told (not d && not (z && is_declared T' f n))) (keeps.definitions f n m covered.0 defined)
     outside false true true defined declared covered e =
-        ap (λ c. told (not (is_defined T' f n m) && not c)) (keeps.constructors f n covered.1 declared) ∙ none (is_defined T' f n m) where
+        ap (λ c. told (not (is_defined T' f n m) && not c)) (keeps.constructors f n covered.1 declared)
+        ∙ none (is_defined T' f n m) where
           none : (d : Bool) → told (not d && false) ≡ []
           none true = refl
           none false = refl
@@ -364,26 +382,31 @@ module _ (M T T' : Table) (keeps : Keeps M T T') where
     outside false false c defined declared covered e = absurd (cc)
 
     by : (b : Bool) → NameCovered M b f n m
-        → (if b then fault_if (not (n + m == 0)) Parameter f n m else told (not (is_defined T f n m) && not ((m == 0) && is_declared T f n))) ≡ []
-        → (if b then fault_if (not (n + m == 0)) Parameter f n m else told (not (is_defined T' f n m) && not ((m == 0) && is_declared T' f n))) ≡ []
+        → (if b then fault_if (not (n + m == 0)) Parameter f n m else told
+        (not (is_defined T f n m) && not ((m == 0) && is_declared T f n))) ≡ []
+        → (if b then fault_if (not (n + m == 0)) Parameter f n m else told
+        (not (is_defined T' f n m) && not ((m == 0) && is_declared T' f n))) ≡ []
     by true covered e = e
     by false covered e = outside (is_defined T f n m) (m == 0) (is_declared T f n) refl refl covered e
 
   module _ (P : Primitives) where
     mutual
-      pub kept-strategy : (names : List Binder) (s : Strategy) → Covered M names s → strategy_faults T P names s ≡ [] → strategy_faults T' P names s ≡ []
+      pub kept-strategy : (names : List Binder) (s : Strategy) → Covered M names s
+          → strategy_faults T P names s ≡ [] → strategy_faults T' P names s ≡ []
       kept-strategy names id covered e = refl
       kept-strategy names fail covered e = refl
       kept-strategy names (matches p) covered e = kept-pattern false p covered e
       kept-strategy names (builds p) covered e = kept-pattern true p covered e
       kept-strategy names (seq r s) covered e =
-          both_none (strategy_faults T P names r) (strategy_faults T P names s) (strategy_faults T' P names r) (strategy_faults T' P names s)
+          both_none (strategy_faults T P names r) (strategy_faults T P names s) (strategy_faults T' P names r)
+          (strategy_faults T' P names s)
           (kept-strategy names r covered.0) (kept-strategy names s covered.1) e
       kept-strategy names (guard q r s) covered e =
           both_none (strategy_faults T P names q) (strategy_faults T P names r ++ strategy_faults T P names s)
           (strategy_faults T' P names q) (strategy_faults T' P names r ++ strategy_faults T' P names s)
           (kept-strategy names q covered.0)
-          (both_none (strategy_faults T P names r) (strategy_faults T P names s) (strategy_faults T' P names r) (strategy_faults T' P names s)
+          (both_none (strategy_faults T P names r) (strategy_faults T P names s) (strategy_faults T' P names r)
+          (strategy_faults T' P names s)
           (kept-strategy names r covered.1.0) (kept-strategy names s covered.1.1)) e
       kept-strategy names (test s) covered e = kept-strategy names s covered e
       kept-strategy names (scope xs s) covered e =
@@ -395,27 +418,35 @@ module _ (M T T' : Table) (keeps : Keeps M T T') where
           both_none (name_faults T names f n m) (faults_of_strategies T P names ss ++ faults_of_patterns T true ps)
           (name_faults T' names f n m) (faults_of_strategies T' P names ss ++ faults_of_patterns T' true ps)
           (kept-name names f n m covered.0)
-          (both_none (faults_of_strategies T P names ss) (faults_of_patterns T true ps) (faults_of_strategies T' P names ss) (faults_of_patterns T' true ps)
+          (both_none (faults_of_strategies T P names ss) (faults_of_patterns T true ps)
+          (faults_of_strategies T' P names ss) (faults_of_patterns T' true ps)
           (kept-strategies names ss covered.1.0) (kept-patterns true ps covered.1.1)) e
       kept-strategy names (congruence h ss) covered e = kept-strategies names ss covered e
       kept-strategy names (tail_congruence ss s) covered e =
-          both_none (faults_of_strategies T P names ss) (strategy_faults T P names s) (faults_of_strategies T' P names ss) (strategy_faults T' P names s)
+          both_none (faults_of_strategies T P names ss) (strategy_faults T P names s)
+          (faults_of_strategies T' P names ss) (strategy_faults T' P names s)
           (kept-strategies names ss covered.0) (kept-strategy names s covered.1) e
       kept-strategy names (all s) covered e = kept-strategy names s covered e
       kept-strategy names (one s) covered e = kept-strategy names s covered e
       kept-strategy names (some s) covered e = kept-strategy names s covered e
       kept-strategy names (child i s) covered e = kept-strategy names s covered e
-      kept-strategy names (rec f s) covered e = kept-strategy (record { name = f; number = length names } ∷ names) s covered e
+      kept-strategy names (rec f s) covered e =
+          kept-strategy (record { name = f; number = length names } ∷ names) s covered e
       kept-strategy names (prim n ps) covered e =
-          let unknown = fault_if (not (is_primitive P n (length (pattern_list ps)))) Primitive n (length (pattern_list ps)) 0 in
-          both_none unknown (faults_of_patterns T true ps) unknown (faults_of_patterns T' true ps) (λ e. e) (kept-patterns true ps covered) e
+          let unknown =
+          fault_if (not (is_primitive P n (length (pattern_list ps)))) Primitive n (length (pattern_list ps)) 0 in
+          both_none unknown (faults_of_patterns T true ps) unknown (faults_of_patterns T' true ps) (λ e. e)
+          (kept-patterns true ps covered) e
 
-      kept-strategies : (names : List Binder) (ss : Strategies) → AllCovered M names ss → faults_of_strategies T P names ss ≡ [] → faults_of_strategies T' P names ss ≡ []
+      kept-strategies : (names : List Binder) (ss : Strategies) → AllCovered M names ss
+          → faults_of_strategies T P names ss ≡ [] → faults_of_strategies T' P names ss ≡ []
       kept-strategies names no_strategies covered e = refl
       kept-strategies names (and_strategy s ss) covered e =
-          both_none (strategy_faults T P names s) (faults_of_strategies T P names ss) (strategy_faults T' P names s) (faults_of_strategies T' P names ss)
+          both_none (strategy_faults T P names s) (faults_of_strategies T P names ss) (strategy_faults T' P names s)
+          (faults_of_strategies T' P names ss)
           (kept-strategy names s covered.0) (kept-strategies names ss covered.1) e
 
     pub kept-bodies : (ds : List Definition) → BodiesCovered M ds → Faultless T P ds → Faultless T' P ds
     kept-bodies [] covered none = tt
-    kept-bodies (d ∷ ds) covered none = (kept-strategy (parameter_names d) d.body covered.0 none.0, kept-bodies ds covered.1 none.1)
+    kept-bodies (d ∷ ds) covered none =
+        (kept-strategy (parameter_names d) d.body covered.0 none.0, kept-bodies ds covered.1 none.1)

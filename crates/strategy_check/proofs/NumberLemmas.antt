@@ -38,15 +38,18 @@ module _ (numbers : List ℕ) (stay : (k : ℕ) → new_number numbers k ≡ k) 
   same-definitions (r ∷ rs) = λ i. record r { strategy = same-strategy r.strategy i } ∷ same-definitions rs i
 
 -- a number at its own index stays, and so does one that no list has
-stays_at : (numbers : List ℕ) (k n : ℕ) → (k < length numbers → get_or numbers k 0 ≡ n) → unwrap_or (slice_get numbers k) n ≡ n
+stays_at : (numbers : List ℕ) (k n : ℕ)
+    → (k < length numbers → get_or numbers k 0 ≡ n) → unwrap_or (slice_get numbers k) n ≡ n
 stays_at [] k n h = refl
 stays_at (m ∷ ms) zero n h = h (omega arith)
 stays_at (m ∷ ms) (suc k) n h = stays_at ms k n (λ (lt : k < length ms). h (omega (arith, lt)))
 
-pub all_stay : (numbers : List ℕ) (i : ℕ) → length numbers ≤ i → ((k : ℕ) → k < i → get_or numbers k 0 ≡ k) → (k : ℕ) → new_number numbers k ≡ k
+pub all_stay : (numbers : List ℕ) (i : ℕ) → length numbers ≤ i → ((k : ℕ) → k < i → get_or numbers k 0 ≡ k) → (k : ℕ)
+    → new_number numbers k ≡ k
 all_stay numbers i ended stay k = stays_at numbers k k (λ (lt : k < length numbers). stay k (omega (arith, lt, ended)))
 
-pub one_more : (numbers : List ℕ) (i : ℕ) → ((k : ℕ) → k < i → get_or numbers k 0 ≡ k) → get_or numbers i 0 ≡ i → (k : ℕ) → k < i + 1 → get_or numbers k 0 ≡ k
+pub one_more : (numbers : List ℕ) (i : ℕ)
+    → ((k : ℕ) → k < i → get_or numbers k 0 ≡ k) → get_or numbers i 0 ≡ i → (k : ℕ) → k < i + 1 → get_or numbers k 0 ≡ k
 one_more numbers i stay next k lt = by (cases_lt k i)
   where
     by : (k < i) ⊎ (i ≤ k) → get_or numbers k 0 ≡ k

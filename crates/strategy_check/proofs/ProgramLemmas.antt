@@ -33,26 +33,37 @@ or_second true b c e = refl
 or_second false b c e = ap (λ b. b || c) e
 
 bound_ones : (bs : List Binder) (seen xs : List Symbol)
-    → ((x : Symbol) → (is_among same_name x seen || is_among same_name x (first_ones same_name seen xs)) ≡ true → is_some (binder_number x bs) ≡ true)
+    → ((x : Symbol) → (is_among same_name x seen || is_among same_name x (first_ones same_name seen xs))
+    ≡ true → is_some (binder_number x bs) ≡ true)
     → AreBound bs xs
 bound_ones bs seen [] h = tt
-bound_ones bs seen (x ∷ xs) h = by (is_among same_name x seen) refl h (bound_ones bs seen xs) (bound_ones bs (seen ++ x ∷ []) xs) where
-  by : (b : Bool) → is_among same_name x seen ≡ b
-      → ((y : Symbol) → (is_among same_name y seen || is_among same_name y (if b then first_ones same_name seen xs else x ∷ first_ones same_name (seen ++ x ∷ []) xs)) ≡ true → is_some (binder_number y bs) ≡ true)
-      → (((y : Symbol) → (is_among same_name y seen || is_among same_name y (first_ones same_name seen xs)) ≡ true → is_some (binder_number y bs) ≡ true) → AreBound bs xs)
-      → (((y : Symbol) → (is_among same_name y (seen ++ x ∷ []) || is_among same_name y (first_ones same_name (seen ++ x ∷ []) xs)) ≡ true → is_some (binder_number y bs) ≡ true) → AreBound bs xs)
-      → AreBound bs (x ∷ xs)
-  by true e h again further = (h x (ap (λ b. b || is_among same_name x (first_ones same_name seen xs)) e), again h)
-  by false e h again further = (
-    h x (or_second (is_among same_name x seen) (same_name x x) (is_among same_name x (first_ones same_name (seen ++ x ∷ []) xs)) (same_name-self x)),
-    further (λ y t. h y (
-        sym (ap (λ b. b || is_among same_name y (first_ones same_name (seen ++ x ∷ []) xs)) (among-append y seen (x ∷ []))
-        ∙ or_assoc (is_among same_name y seen) (same_name y x) (is_among same_name y (first_ones same_name (seen ++ x ∷ []) xs)))
-        ∙ t)),
-  )
+bound_ones bs seen (x ∷ xs) h =
+    by (is_among same_name x seen) refl h (bound_ones bs seen xs) (bound_ones bs (seen ++ x ∷ []) xs) where
+      by : (b : Bool) → is_among same_name x seen ≡ b
+          → ((y : Symbol) → (is_among same_name y seen || is_among same_name y
+          (if b then first_ones same_name seen xs else x ∷ first_ones same_name (seen ++ x ∷ []) xs))
+          ≡ true → is_some (binder_number y bs) ≡ true)
+          → (((y : Symbol) → (is_among same_name y seen || is_among same_name y (first_ones same_name seen xs))
+          ≡ true → is_some (binder_number y bs) ≡ true) → AreBound bs xs)
+          → (((y : Symbol) → (is_among same_name y (seen ++ x ∷ []) || is_among same_name y
+          (first_ones same_name (seen ++ x ∷ []) xs)) ≡ true → is_some (binder_number y bs) ≡ true) → AreBound bs xs)
+          → AreBound bs (x ∷ xs)
+      by true e h again further = (h x (ap (λ b. b || is_among same_name x (first_ones same_name seen xs)) e), again h)
+      by false e h again further = (
+        h x (or_second (is_among same_name x seen) (same_name x x)
+            (is_among same_name x (first_ones same_name (seen ++ x ∷ []) xs)) (same_name-self x)),
+        further (λ y t. h y (
+            sym
+            (ap (λ b. b || is_among same_name y (first_ones same_name (seen ++ x ∷ []) xs))
+            (among-append y seen (x ∷ []))
+            ∙ or_assoc (is_among same_name y seen) (same_name y x)
+            (is_among same_name y (first_ones same_name (seen ++ x ∷ []) xs)))
+            ∙ t)),
+      )
 
 -- the free variables of a strategy, in addition to parameters
-free_bound : (parameters : List Symbol) (n : ℕ) (s : Strategy) → AreBound (bound_from 0 parameters (bound_from n (free_variables parameters s) [])) (free s)
+free_bound : (parameters : List Symbol) (n : ℕ) (s : Strategy)
+    → AreBound (bound_from 0 parameters (bound_from n (free_variables parameters s) [])) (free s)
 free_bound parameters n s =
     bound_ones (bound_from 0 parameters (bound_from n xs [])) parameters (free s)
     (λ x t. bound_number 0 parameters (bound_from n xs []) x
@@ -82,17 +93,21 @@ module _ (T : Table) (P : Primitives) where
   AllIn n m [] = ⊤
   AllIn n m (r ∷ rs) = InRange T.definitions P n m r × AllIn n m rs
 
-  body_range : (k : DefinitionKey) (first count : ℕ) (d : Definition) → Suits k d → first + length (free_of d) ≤ count → k.terms ≤ count
+  body_range : (k : DefinitionKey) (first count : ℕ) (d : Definition) → Suits k d
+      → first + length (free_of d) ≤ count → k.terms ≤ count
       → InRange T.definitions P count k.strategies (resolved_strategy T P (scope_of first count d) d.body)
   body_range k first count d suits free_fit terms_fit =
-      let names : length (bound_from 0 d.strategy_parameters []) ≡ k.strategies = bound_count 0 d.strategy_parameters ∙ sym suits.strategies in
+      let names : length (bound_from 0 d.strategy_parameters []) ≡ k.strategies = bound_count 0 d.strategy_parameters
+      ∙ sym suits.strategies in
       let fit : 0 + length d.term_parameters ≤ count = let e = suits.terms in omega (arith, e) in
       subst (λ m. InRange T.definitions P count m (resolved_strategy T P (scope_of first count d) d.body)) names
       (strategy_range T P (scope_of first count d) d.body
-      (below-bound count 0 d.term_parameters (bound_from first (free_of d) []) fit (below-bound count first (free_of d) [] free_fit tt))
+      (below-bound count 0 d.term_parameters (bound_from first (free_of d) []) fit
+      (below-bound count first (free_of d) [] free_fit tt))
       (names_below d.strategy_parameters) (free_bound d.term_parameters first d.body) suits.faultless)
 
-  bodies_range : (k : DefinitionKey) (first count : ℕ) (ds : List Definition) → AllSuit k ds → first + variable_count ds ≤ count → k.terms ≤ count
+  bodies_range : (k : DefinitionKey) (first count : ℕ) (ds : List Definition) → AllSuit k ds
+      → first + variable_count ds ≤ count → k.terms ≤ count
       → AllIn count k.strategies (resolved_bodies T P first count ds)
   bodies_range k first count [] suit fit terms_fit = tt
   bodies_range k first count (d ∷ ds) suit fit terms_fit = (
@@ -106,11 +121,14 @@ module _ (T : Table) (P : Primitives) where
   joined_range n m (r ∷ (q ∷ rs)) h = (h.0, (tt, joined_range n m (q ∷ rs) h.1))
 
   joined_definition_range : (k : DefinitionKey) (ds : List Definition) → AllSuit k ds
-      → InRange T.definitions P (k.terms + variable_count ds) k.strategies (joined (resolved_bodies T P (term_count ds) (term_count ds + variable_count ds) ds))
+      → InRange T.definitions P (k.terms + variable_count ds) k.strategies
+      (joined (resolved_bodies T P (term_count ds) (term_count ds + variable_count ds) ds))
   joined_definition_range k [] suit = tt
   joined_definition_range k (d ∷ ds) suit =
-      subst (λ t. InRange T.definitions P (k.terms + variable_count (d ∷ ds)) k.strategies (joined (resolved_bodies T P t (t + variable_count (d ∷ ds)) (d ∷ ds)))) suit.0.terms
-      (joined_range (k.terms + variable_count (d ∷ ds)) k.strategies (resolved_bodies T P k.terms (k.terms + variable_count (d ∷ ds)) (d ∷ ds))
+      subst (λ t. InRange T.definitions P (k.terms + variable_count (d ∷ ds)) k.strategies
+      (joined (resolved_bodies T P t (t + variable_count (d ∷ ds)) (d ∷ ds)))) suit.0.terms
+      (joined_range (k.terms + variable_count (d ∷ ds)) k.strategies
+      (resolved_bodies T P k.terms (k.terms + variable_count (d ∷ ds)) (d ∷ ds))
       (bodies_range k k.terms (k.terms + variable_count (d ∷ ds)) (d ∷ ds) suit (omega arith) (omega arith)))
 
   -- ---- those of one number
@@ -118,59 +136,83 @@ module _ (T : Table) (P : Primitives) where
   same_some : {X : Type 0} {x y : X} → Some x ≡ Some y → x ≡ y
   same_some e = cc
 
-  key_suits : (k : DefinitionKey) (i : ℕ) (d : Definition) (o : Option ℕ) → definition_number T d.name (length d.strategy_parameters) (length d.term_parameters) ≡ o → is_number i o ≡ true
+  key_suits : (k : DefinitionKey) (i : ℕ) (d : Definition) (o : Option ℕ)
+      → definition_number T d.name (length d.strategy_parameters) (length d.term_parameters) ≡ o → is_number i o ≡ true
       → slice_get T.definitions i ≡ Some k → strategy_faults T P (parameter_names d) d.body ≡ [] → Suits k d
   key_suits k i d None e t there none = absurd (cc)
   key_suits k i d (Some j) e t there none =
       let same : i ≡ j = (Decides-eqb i j).0 t in
       let found = numbered T d.name (length d.strategy_parameters) (length d.term_parameters) (Some j) e in
-      let at : IsSomeAnd (Some k) (λ k. (k.strategies ≡ length d.strategy_parameters) × (k.terms ≡ length d.term_parameters)) =
-      subst (λ o. IsSomeAnd o (λ k. (k.strategies ≡ length d.strategy_parameters) × (k.terms ≡ length d.term_parameters))) (ap (slice_get T.definitions) (sym same) ∙ there) found in
+      let at : IsSomeAnd (Some k) (λ k.
+      (k.strategies ≡ length d.strategy_parameters) × (k.terms ≡ length d.term_parameters)) =
+      subst
+      (λ o. IsSomeAnd o (λ k. (k.strategies ≡ length d.strategy_parameters) × (k.terms ≡ length d.term_parameters)))
+      (ap (slice_get T.definitions) (sym same) ∙ there) found in
       record { strategies = at.0; terms = at.1; faultless = none }
 
-  all_suit : (k : DefinitionKey) (i : ℕ) (ds : List Definition) → slice_get T.definitions i ≡ Some k → Faultless T P ds → AllSuit k (of_number T ds i)
+  all_suit : (k : DefinitionKey) (i : ℕ) (ds : List Definition) → slice_get T.definitions i ≡ Some k → Faultless T P ds
+      → AllSuit k (of_number T ds i)
   all_suit k i [] there none = tt
-  all_suit k i (d ∷ ds) there none = by (is_number i (definition_number T d.name (length d.strategy_parameters) (length d.term_parameters))) refl (all_suit k i ds there none.1) where
-    by : (b : Bool) → is_number i (definition_number T d.name (length d.strategy_parameters) (length d.term_parameters)) ≡ b → AllSuit k (of_number T ds i)
-        → AllSuit k (if b then d ∷ of_number T ds i else of_number T ds i)
-    by true e rest = (key_suits k i d (definition_number T d.name (length d.strategy_parameters) (length d.term_parameters)) refl e there none.0, rest)
-    by false e rest = rest
+  all_suit k i (d ∷ ds) there none =
+      by (is_number i (definition_number T d.name (length d.strategy_parameters) (length d.term_parameters))) refl
+      (all_suit k i ds there none.1) where
+        by : (b : Bool)
+            → is_number i (definition_number T d.name (length d.strategy_parameters) (length d.term_parameters))
+            ≡ b → AllSuit k (of_number T ds i)
+            → AllSuit k (if b then d ∷ of_number T ds i else of_number T ds i)
+        by true e rest = (
+          key_suits k i d (definition_number T d.name (length d.strategy_parameters) (length d.term_parameters)) refl e
+              there none.0,
+          rest,
+        )
+        by false e rest = rest
 
   -- ---- all of them
 
-  at_number : (Q : Resolved → Type 0) (ds : List Definition) (i f : ℕ) (ks : List DefinitionKey) (k : DefinitionKey) → slice_get ks f ≡ Some k
-      → Q (joined_definition T P (of_number T ds (i + f))) → IsSomeAnd (slice_get (map (joined_definition T P) (groups_from T ds i ks)) f) Q
+  at_number : (Q : Resolved → Type 0) (ds : List Definition) (i f : ℕ) (ks : List DefinitionKey) (k : DefinitionKey)
+      → slice_get ks f ≡ Some k
+      → Q (joined_definition T P (of_number T ds (i + f)))
+      → IsSomeAnd (slice_get (map (joined_definition T P) (groups_from T ds i ks)) f) Q
   at_number Q ds i f [] k e q = absurd (cc)
   at_number Q ds i zero (h ∷ ks) k e q = subst (λ n. Q (joined_definition T P (of_number T ds n))) (omega arith) q
-  at_number Q ds i (suc f) (h ∷ ks) k e q = at_number Q ds (i + 1) f ks k e (subst (λ n. Q (joined_definition T P (of_number T ds n))) (omega arith) q)
+  at_number Q ds i (suc f) (h ∷ ks) k e q =
+      at_number Q ds (i + 1) f ks k e (subst (λ n. Q (joined_definition T P (of_number T ds n))) (omega arith) q)
 
   faultless-append : (ds es : List Definition) → Faultless T P ds → Faultless T P es → Faultless T P (ds ++ es)
   faultless-append [] es h k = k
   faultless-append (d ∷ ds) es h k = (h.0, faultless-append ds es h.1 k)
 
-  faultless_definitions : (earlier : List DefinitionKey) (ds : List Definition) → flat_map (definition_faults T P earlier) ds ≡ [] → Faultless T P ds
+  faultless_definitions : (earlier : List DefinitionKey) (ds : List Definition)
+      → flat_map (definition_faults T P earlier) ds ≡ [] → Faultless T P ds
   faultless_definitions earlier [] e = tt
   faultless_definitions earlier (d ∷ ds) e = (
-    right-none (header_faults T earlier d) (strategy_faults T P (parameter_names d) d.body) (left-none (definition_faults T P earlier d) (flat_map (definition_faults T P earlier) ds) e),
-    faultless_definitions earlier ds (right-none (definition_faults T P earlier d) (flat_map (definition_faults T P earlier) ds) e),
+    right-none (header_faults T earlier d) (strategy_faults T P (parameter_names d) d.body)
+        (left-none (definition_faults T P earlier d) (flat_map (definition_faults T P earlier) ds) e),
+    faultless_definitions earlier ds
+        (right-none (definition_faults T P earlier d) (flat_map (definition_faults T P earlier) ds) e),
   )
 
-  faultless_modules : (earlier : List DefinitionKey) (ms : Modules) → faults_from T P earlier ms ≡ [] → Faultless T P (definitions_of ms)
+  faultless_modules : (earlier : List DefinitionKey) (ms : Modules)
+      → faults_from T P earlier ms ≡ [] → Faultless T P (definitions_of ms)
   faultless_modules earlier [] e = tt
   faultless_modules earlier (m ∷ ms) e =
       let rest = faults_from T P (with_new same_key earlier (keys_of m.1.definitions)) ms in
       faultless-append m.1.definitions (definitions_of ms)
       (faultless_definitions earlier m.1.definitions (left-none (module_faults T P earlier m.1) rest e))
-      (faultless_modules (with_new same_key earlier (keys_of m.1.definitions)) ms (right-none (module_faults T P earlier m.1) rest e))
+      (faultless_modules (with_new same_key earlier (keys_of m.1.definitions)) ms
+      (right-none (module_faults T P earlier m.1) rest e))
 
 pub bodies_in_range : (ms : Modules) (P : Primitives) → faults ms P ≡ [] → BodiesInRange (program ms P) P
 bodies_in_range ms P e f k there =
-    at_number (table_of ms) P (λ r. IsInRange (program ms P) P k.terms k.strategies r) (definitions_of ms) 0 f (table_of ms).definitions k there
-    (subst (λ n. IsInRange (program ms P) P k.terms k.strategies (joined_definition (table_of ms) P (of_number (table_of ms) (definitions_of ms) n))) (omega arith)
+    at_number (table_of ms) P (λ r. IsInRange (program ms P) P k.terms k.strategies r) (definitions_of ms) 0 f
+    (table_of ms).definitions k there
+    (subst (λ n. IsInRange (program ms P) P k.terms k.strategies
+    (joined_definition (table_of ms) P (of_number (table_of ms) (definitions_of ms) n))) (omega arith)
     (joined_definition_range (table_of ms) P k (of_number (table_of ms) (definitions_of ms) f)
     (all_suit (table_of ms) P k f (definitions_of ms) there (faultless_modules (table_of ms) P [] ms e))))
 
-pub resolved_range : (p : Program) (P : Primitives) (s : Strategy) → faults_of p P s ≡ [] → IsInRange p P 0 0 (resolved p P s)
+pub resolved_range : (p : Program) (P : Primitives) (s : Strategy)
+    → faults_of p P s ≡ [] → IsInRange p P 0 0 (resolved p P s)
 resolved_range p P s e =
     let xs = free_variables [] s in
     subst (λ n. InRange p.table.definitions P n 0 (resolved p P s).strategy) (omega arith)

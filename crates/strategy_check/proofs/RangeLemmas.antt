@@ -32,17 +32,22 @@ pub below-more : (m n : ℕ) (bs : List Binder) → m ≤ n → AreBelow m bs �
 below-more m n [] le below = tt
 below-more m n (b ∷ bs) le below = (let h = below.0 in omega arith, below-more m n bs le below.1)
 
-pub below-bound : (n k : ℕ) (xs : List Symbol) (bs : List Binder) → k + length xs ≤ n → AreBelow n bs → AreBelow n (bound_from k xs bs)
+pub below-bound : (n k : ℕ) (xs : List Symbol) (bs : List Binder) → k + length xs ≤ n → AreBelow n bs
+    → AreBelow n (bound_from k xs bs)
 below-bound n k [] bs le below = below
-below-bound n k (x ∷ xs) bs le below = below-bound n (k + 1) xs (record { name = x; number = k } ∷ bs) (omega arith) (omega arith, below)
+below-bound n k (x ∷ xs) bs le below =
+    below-bound n (k + 1) xs (record { name = x; number = k } ∷ bs) (omega arith) (omega arith, below)
 
-number-below : (n : ℕ) (bs : List Binder) (x : Symbol) (o : Option ℕ) → binder_number x bs ≡ o → AreBelow n bs → IfSome o (λ k. k < n)
+number-below : (n : ℕ) (bs : List Binder) (x : Symbol) (o : Option ℕ) → binder_number x bs ≡ o → AreBelow n bs
+    → IfSome o (λ k. k < n)
 number-below n bs x None e below = tt
 number-below n [] x (Some k) e below = absurd (cc)
-number-below n (b ∷ bs) x (Some k) e below = by (same_name b.name x) e (λ e. number-below n bs x (Some k) e below.1) where
-  by : (t : Bool) → (if t then Some b.number else binder_number x bs) ≡ Some k → (binder_number x bs ≡ Some k → k < n) → k < n
-  by true e rest = let same : b.number ≡ k = cc in let h = below.0 in omega (arith, same, h)
-  by false e rest = rest e
+number-below n (b ∷ bs) x (Some k) e below =
+    by (same_name b.name x) e (λ e. number-below n bs x (Some k) e below.1) where
+      by : (t : Bool) → (if t then Some b.number else binder_number x bs) ≡ Some k
+          → (binder_number x bs ≡ Some k → k < n) → k < n
+      by true e rest = let same : b.number ≡ k = cc in let h = below.0 in omega (arith, same, h)
+      by false e rest = rest e
 
 -- each has a binder
 abbrev pub AreBound : List Binder → List Symbol → Type 0
@@ -64,15 +69,21 @@ or-true-right : (a b : Bool) → b ≡ true → (a || b) ≡ true
 or-true-right true b e = refl
 or-true-right false b e = e
 
-bound-inside : (k : ℕ) (bs : List Binder) (xs ys : List Symbol) → AreBound bs (without same_name xs ys) → AreBound (bound_from k xs bs) ys
+bound-inside : (k : ℕ) (bs : List Binder) (xs ys : List Symbol) → AreBound bs (without same_name xs ys)
+    → AreBound (bound_from k xs bs) ys
 bound-inside k bs xs [] h = tt
 bound-inside k bs xs (y ∷ ys) h = by (is_among same_name y xs) refl h (bound-inside k bs xs ys) where
-  by : (b : Bool) → is_among same_name y xs ≡ b → AreBound bs (if b then without same_name xs ys else y ∷ without same_name xs ys)
-      → (AreBound bs (without same_name xs ys) → AreBound (bound_from k xs bs) ys) → AreBound (bound_from k xs bs) (y ∷ ys)
-  by true e h rest = (bound_number k xs bs y ∙ or-true (is_among same_name y xs) (is_some (binder_number y bs)) e, rest h)
-  by false e h rest = (bound_number k xs bs y ∙ or-true-right (is_among same_name y xs) (is_some (binder_number y bs)) h.0, rest h.1)
+  by : (b : Bool)
+      → is_among same_name y xs ≡ b → AreBound bs (if b then without same_name xs ys else y ∷ without same_name xs ys)
+      → (AreBound bs (without same_name xs ys) → AreBound (bound_from k xs bs) ys)
+      → AreBound (bound_from k xs bs) (y ∷ ys)
+  by true e h rest =
+      (bound_number k xs bs y ∙ or-true (is_among same_name y xs) (is_some (binder_number y bs)) e, rest h)
+  by false e h rest =
+      (bound_number k xs bs y ∙ or-true-right (is_among same_name y xs) (is_some (binder_number y bs)) h.0, rest h.1)
 
-variable-below : (n : ℕ) (bs : List Binder) (x : Symbol) → AreBelow n bs → is_some (binder_number x bs) ≡ true → variable_number bs x < n
+variable-below : (n : ℕ) (bs : List Binder) (x : Symbol) → AreBelow n bs
+    → is_some (binder_number x bs) ≡ true → variable_number bs x < n
 variable-below n bs x below there = by (binder_number x bs) refl there where
   by : (o : Option ℕ) → binder_number x bs ≡ o → is_some o ≡ true → unwrap_or o 0 < n
   by None e t = absurd (cc)
@@ -82,29 +93,39 @@ variable-below n bs x below there = by (binder_number x bs) refl there where
 
 module _ (n : ℕ) (bs : List Binder) (below : AreBelow n bs) where
   mutual
-    pub resolved_pattern-range : (p : Pattern) → AreBound bs (variables p) → ResolvedPatternInRange n (resolved_pattern bs p)
+    pub resolved_pattern-range : (p : Pattern) → AreBound bs (variables p)
+        → ResolvedPatternInRange n (resolved_pattern bs p)
     resolved_pattern-range wildcard h = tt
     resolved_pattern-range (variable x) h = variable-below n bs x below h.0
     resolved_pattern-range (at x p) h = (variable-below n bs x below h.0, resolved_pattern-range p h.1)
     resolved_pattern-range (number z) h = tt
     resolved_pattern-range (compound g ps) h = resolved_patterns-range ps h
-    resolved_pattern-range (with_tail ps p) h =
-        (resolved_patterns-range ps (bound-left bs (variables_of_all ps) (variables p) h), resolved_pattern-range p (bound-right bs (variables_of_all ps) (variables p) h))
-    resolved_pattern-range (annotated p ps) h =
-        (resolved_pattern-range p (bound-left bs (variables p) (variables_of_all ps) h), resolved_patterns-range ps (bound-right bs (variables p) (variables_of_all ps) h))
+    resolved_pattern-range (with_tail ps p) h = (
+      resolved_patterns-range ps (bound-left bs (variables_of_all ps) (variables p) h),
+      resolved_pattern-range p (bound-right bs (variables_of_all ps) (variables p) h),
+    )
+    resolved_pattern-range (annotated p ps) h = (
+      resolved_pattern-range p (bound-left bs (variables p) (variables_of_all ps) h),
+      resolved_patterns-range ps (bound-right bs (variables p) (variables_of_all ps) h),
+    )
 
-    pub resolved_patterns-range : (ps : Patterns) → AreBound bs (variables_of_all ps) → ResolvedPatternsInRange n (resolved_patterns bs ps)
+    pub resolved_patterns-range : (ps : Patterns) → AreBound bs (variables_of_all ps)
+        → ResolvedPatternsInRange n (resolved_patterns bs ps)
     resolved_patterns-range no_patterns h = tt
-    resolved_patterns-range (and_pattern p ps) h =
-        (resolved_pattern-range p (bound-left bs (variables p) (variables_of_all ps) h), resolved_patterns-range ps (bound-right bs (variables p) (variables_of_all ps) h))
+    resolved_patterns-range (and_pattern p ps) h = (
+      resolved_pattern-range p (bound-left bs (variables p) (variables_of_all ps) h),
+      resolved_patterns-range ps (bound-right bs (variables p) (variables_of_all ps) h),
+    )
 
 -- ---- the number of parts stays the same
 
-resolved_pattern_count : (bs : List Binder) (ps : Patterns) → length (resolved_pattern_list (resolved_patterns bs ps)) ≡ length (pattern_list ps)
+resolved_pattern_count : (bs : List Binder) (ps : Patterns)
+    → length (resolved_pattern_list (resolved_patterns bs ps)) ≡ length (pattern_list ps)
 resolved_pattern_count bs no_patterns = refl
 resolved_pattern_count bs (and_pattern p ps) = ap suc (resolved_pattern_count bs ps)
 
-resolved_count : (T : Table) (P : Primitives) (E : Scope) (ss : Strategies) → length (resolved_list (resolved_strategies T P E ss)) ≡ length (strategy_list ss)
+resolved_count : (T : Table) (P : Primitives) (E : Scope) (ss : Strategies)
+    → length (resolved_list (resolved_strategies T P E ss)) ≡ length (strategy_list ss)
 resolved_count T P E no_strategies = refl
 resolved_count T P E (and_strategy s ss) = ap suc (resolved_count T P E ss)
 
@@ -141,7 +162,8 @@ numbered T f n m (Some i) e =
     let wanted : DefinitionKey = record { name = f; strategies = n; terms = m } in
     let found = position-Some (same_key wanted) T.definitions i wanted e in
     let k = get_or T.definitions i wanted in
-    let there : slice_get T.definitions i ≡ Some k = slice_get_read T.definitions (length T.definitions) i k refl found.0 (get_or_same T.definitions i wanted k found.0) in
+    let there : slice_get T.definitions i ≡ Some k = slice_get_read T.definitions (length T.definitions) i k refl
+    found.0 (get_or_same T.definitions i wanted k found.0) in
     let counts = and-right (same_name f k.name) ((n == k.strategies) && (m == k.terms)) found.1 in
     subst (λ o. IsSomeAnd o (λ k. (k.strategies ≡ n) × (k.terms ≡ m))) (sym there) (
       sym ((Decides-eqb n k.strategies).0 (and-left (n == k.strategies) (m == k.terms) counts)),
@@ -149,7 +171,8 @@ numbered T f n m (Some i) e =
     )
 
 -- the primitive at its number, if there is no fault about it
-pub primitive_range : (P : Primitives) (n : Symbol) (m : ℕ) (o : Option ℕ) → primitive.index_of n.text m P ≡ o → is_some o ≡ true
+pub primitive_range : (P : Primitives) (n : Symbol) (m : ℕ) (o : Option ℕ)
+    → primitive.index_of n.text m P ≡ o → is_some o ≡ true
     → IsSomeAnd (slice_get P (unwrap_or o 0)) (λ p. m ≡ p.arity)
 primitive_range P n m None e there = absurd (cc)
 primitive_range P n m (Some i) e there =
@@ -164,7 +187,8 @@ no_fault false kind f n m e = absurd (cc)
 module _ (T : Table) (P : Primitives) where
   -- a name, with parts in range
   name_range : (n k : ℕ) (f : Symbol) (o : Option ℕ) (d : Option ℕ) (rs : ResolvedStrategies) (qs : ResolvedPatterns)
-      → IfSome o (λ x. x < k) → IfSome d (λ i. IsSomeAnd (slice_get T.definitions i) (λ k. (k.strategies ≡ length (resolved_list rs)) × (k.terms ≡ length (resolved_pattern_list qs))))
+      → IfSome o (λ x. x < k) → IfSome d (λ i. IsSomeAnd (slice_get T.definitions i)
+      (λ k. (k.strategies ≡ length (resolved_list rs)) × (k.terms ≡ length (resolved_pattern_list qs))))
       → AllInRange T.definitions P n k rs → ResolvedPatternsInRange n qs
       → InRange T.definitions P n k (name_or_other o (definition_or_constructor f d rs qs))
   name_range n k f (Some x) d rs qs below defined parts terms = below
@@ -172,63 +196,90 @@ module _ (T : Table) (P : Primitives) where
   name_range n k f None None rs qs below defined parts terms = parts
 
   mutual
-    pub strategy_range : (E : Scope) (s : Strategy) → AreBelow E.count E.variables → AreBelow (length E.names) E.names → AreBound E.variables (free s)
-        → strategy_faults T P E.names s ≡ [] → InRange T.definitions P E.count (length E.names) (resolved_strategy T P E s)
+    pub strategy_range : (E : Scope) (s : Strategy) → AreBelow E.count E.variables → AreBelow (length E.names) E.names
+        → AreBound E.variables (free s)
+        → strategy_faults T P E.names s
+        ≡ [] → InRange T.definitions P E.count (length E.names) (resolved_strategy T P E s)
     strategy_range E id below named bound e = tt
     strategy_range E fail below named bound e = tt
     strategy_range E (matches p) below named bound e = resolved_pattern-range E.count E.variables below p bound
     strategy_range E (builds p) below named bound e = resolved_pattern-range E.count E.variables below p bound
     strategy_range E (seq r s) below named bound e = (
-      strategy_range E r below named (bound-left E.variables (free r) (free s) bound) (left-none (strategy_faults T P E.names r) (strategy_faults T P E.names s) e),
-      strategy_range E s below named (bound-right E.variables (free r) (free s) bound) (right-none (strategy_faults T P E.names r) (strategy_faults T P E.names s) e),
+      strategy_range E r below named (bound-left E.variables (free r) (free s) bound)
+          (left-none (strategy_faults T P E.names r) (strategy_faults T P E.names s) e),
+      strategy_range E s below named (bound-right E.variables (free r) (free s) bound)
+          (right-none (strategy_faults T P E.names r) (strategy_faults T P E.names s) e),
     )
     strategy_range E (guard q r s) below named bound e =
-        let later = right-none (strategy_faults T P E.names q) (strategy_faults T P E.names r ++ strategy_faults T P E.names s) e in
+        let later =
+        right-none (strategy_faults T P E.names q) (strategy_faults T P E.names r ++ strategy_faults T P E.names s) e in
         let inner = bound-right E.variables (free q) (free r ++ free s) bound in (
-          strategy_range E q below named (bound-left E.variables (free q) (free r ++ free s) bound) (left-none (strategy_faults T P E.names q) (strategy_faults T P E.names r ++ strategy_faults T P E.names s) e),
+          strategy_range E q below named (bound-left E.variables (free q) (free r ++ free s) bound)
+              (left-none (strategy_faults T P E.names q)
+              (strategy_faults T P E.names r ++ strategy_faults T P E.names s) e),
           (
-            strategy_range E r below named (bound-left E.variables (free r) (free s) inner) (left-none (strategy_faults T P E.names r) (strategy_faults T P E.names s) later),
-            strategy_range E s below named (bound-right E.variables (free r) (free s) inner) (right-none (strategy_faults T P E.names r) (strategy_faults T P E.names s) later),
+            strategy_range E r below named (bound-left E.variables (free r) (free s) inner)
+                (left-none (strategy_faults T P E.names r) (strategy_faults T P E.names s) later),
+            strategy_range E s below named (bound-right E.variables (free r) (free s) inner)
+                (right-none (strategy_faults T P E.names r) (strategy_faults T P E.names s) later),
           ),
         )
     strategy_range E (test s) below named bound e = strategy_range E s below named bound e
     strategy_range E (scope xs s) below named bound e =
         strategy_range (with_variables E xs) s
-        (below-bound (E.count + length xs) E.count xs E.variables (omega arith) (below-more E.count (E.count + length xs) E.variables (omega arith) below))
-        named (bound-inside E.count E.variables xs (free s) bound) (right-none (repeated_names xs) (strategy_faults T P E.names s) e)
+        (below-bound (E.count + length xs) E.count xs E.variables (omega arith)
+        (below-more E.count (E.count + length xs) E.variables (omega arith) below))
+        named (bound-inside E.count E.variables xs (free s) bound)
+        (right-none (repeated_names xs) (strategy_faults T P E.names s) e)
     strategy_range E (uses f ss ps) below named bound e =
         let n = length (strategy_list ss) in
         let m = length (pattern_list ps) in
-        let later = right-none (name_faults T E.names f n m) (faults_of_strategies T P E.names ss ++ faults_of_patterns T true ps) e in
-        name_range E.count (length E.names) f (binder_number f E.names) (definition_number T f n m) (resolved_strategies T P E ss) (resolved_patterns E.variables ps)
+        let later = right-none (name_faults T E.names f n m)
+        (faults_of_strategies T P E.names ss ++ faults_of_patterns T true ps) e in
+        name_range E.count (length E.names) f (binder_number f E.names) (definition_number T f n m)
+        (resolved_strategies T P E ss) (resolved_patterns E.variables ps)
         (number-below (length E.names) E.names f (binder_number f E.names) refl named)
-        (subst (λ a. IfSome (definition_number T f n m) (λ i. IsSomeAnd (slice_get T.definitions i) (λ k. (k.strategies ≡ a) × (k.terms ≡ length (resolved_pattern_list (resolved_patterns E.variables ps)))))) (sym (resolved_count T P E ss))
-        (subst (λ b. IfSome (definition_number T f n m) (λ i. IsSomeAnd (slice_get T.definitions i) (λ k. (k.strategies ≡ n) × (k.terms ≡ b)))) (sym (resolved_pattern_count E.variables ps))
+        (subst (λ a. IfSome (definition_number T f n m) (λ i. IsSomeAnd (slice_get T.definitions i)
+        (λ k. (k.strategies ≡ a) × (k.terms ≡ length (resolved_pattern_list (resolved_patterns E.variables ps))))))
+        (sym (resolved_count T P E ss))
+        (subst (λ b. IfSome (definition_number T f n m) (λ i. IsSomeAnd (slice_get T.definitions i)
+        (λ k. (k.strategies ≡ n) × (k.terms ≡ b)))) (sym (resolved_pattern_count E.variables ps))
         (numbered T f n m (definition_number T f n m) refl)))
-        (strategies_range E ss below named (bound-left E.variables (free_in_all ss) (variables_of_all ps) bound) (left-none (faults_of_strategies T P E.names ss) (faults_of_patterns T true ps) later))
-        (resolved_patterns-range E.count E.variables below ps (bound-right E.variables (free_in_all ss) (variables_of_all ps) bound))
+        (strategies_range E ss below named (bound-left E.variables (free_in_all ss) (variables_of_all ps) bound)
+        (left-none (faults_of_strategies T P E.names ss) (faults_of_patterns T true ps) later))
+        (resolved_patterns-range E.count E.variables below ps
+        (bound-right E.variables (free_in_all ss) (variables_of_all ps) bound))
     strategy_range E (congruence h ss) below named bound e = strategies_range E ss below named bound e
     strategy_range E (tail_congruence ss s) below named bound e = (
-      strategies_range E ss below named (bound-left E.variables (free_in_all ss) (free s) bound) (left-none (faults_of_strategies T P E.names ss) (strategy_faults T P E.names s) e),
-      strategy_range E s below named (bound-right E.variables (free_in_all ss) (free s) bound) (right-none (faults_of_strategies T P E.names ss) (strategy_faults T P E.names s) e),
+      strategies_range E ss below named (bound-left E.variables (free_in_all ss) (free s) bound)
+          (left-none (faults_of_strategies T P E.names ss) (strategy_faults T P E.names s) e),
+      strategy_range E s below named (bound-right E.variables (free_in_all ss) (free s) bound)
+          (right-none (faults_of_strategies T P E.names ss) (strategy_faults T P E.names s) e),
     )
     strategy_range E (all s) below named bound e = strategy_range E s below named bound e
     strategy_range E (one s) below named bound e = strategy_range E s below named bound e
     strategy_range E (some s) below named bound e = strategy_range E s below named bound e
     strategy_range E (child i s) below named bound e = strategy_range E s below named bound e
     strategy_range E (rec f s) below named bound e =
-        strategy_range (with_name E f) s below (omega arith, below-more (length E.names) (suc (length E.names)) E.names (omega arith) named) bound e
+        strategy_range (with_name E f) s below
+        (omega arith, below-more (length E.names) (suc (length E.names)) E.names (omega arith) named) bound e
     strategy_range E (prim n ps) below named bound e =
         let m = length (pattern_list ps) in (
-          subst (λ k. IsSomeAnd (slice_get P (unwrap_or (primitive.index_of n.text m P) 0)) (λ p. k ≡ p.arity)) (sym (resolved_pattern_count E.variables ps))
-              (primitive_range P n m (primitive.index_of n.text m P) refl (no_fault (is_primitive P n m) Primitive n m 0 (left-none (fault_if (not (is_primitive P n m)) Primitive n m 0) (faults_of_patterns T true ps) e))),
+          subst (λ k. IsSomeAnd (slice_get P (unwrap_or (primitive.index_of n.text m P) 0)) (λ p. k ≡ p.arity))
+              (sym (resolved_pattern_count E.variables ps))
+              (primitive_range P n m (primitive.index_of n.text m P) refl (no_fault (is_primitive P n m) Primitive n m 0
+              (left-none (fault_if (not (is_primitive P n m)) Primitive n m 0) (faults_of_patterns T true ps) e))),
           resolved_patterns-range E.count E.variables below ps bound,
         )
 
-    strategies_range : (E : Scope) (ss : Strategies) → AreBelow E.count E.variables → AreBelow (length E.names) E.names → AreBound E.variables (free_in_all ss)
-        → faults_of_strategies T P E.names ss ≡ [] → AllInRange T.definitions P E.count (length E.names) (resolved_strategies T P E ss)
+    strategies_range : (E : Scope) (ss : Strategies) → AreBelow E.count E.variables → AreBelow (length E.names) E.names
+        → AreBound E.variables (free_in_all ss)
+        → faults_of_strategies T P E.names ss
+        ≡ [] → AllInRange T.definitions P E.count (length E.names) (resolved_strategies T P E ss)
     strategies_range E no_strategies below named bound e = tt
     strategies_range E (and_strategy s ss) below named bound e = (
-      strategy_range E s below named (bound-left E.variables (free s) (free_in_all ss) bound) (left-none (strategy_faults T P E.names s) (faults_of_strategies T P E.names ss) e),
-      strategies_range E ss below named (bound-right E.variables (free s) (free_in_all ss) bound) (right-none (strategy_faults T P E.names s) (faults_of_strategies T P E.names ss) e),
+      strategy_range E s below named (bound-left E.variables (free s) (free_in_all ss) bound)
+          (left-none (strategy_faults T P E.names s) (faults_of_strategies T P E.names ss) e),
+      strategies_range E ss below named (bound-right E.variables (free s) (free_in_all ss) bound)
+          (right-none (strategy_faults T P E.names s) (faults_of_strategies T P E.names ss) e),
     )

@@ -36,7 +36,8 @@ abbrev mutual
   InRange D P n m (scope k s) = InRange D P (n + k) m s
   InRange D P n m (param x) = x < m
   InRange D P n m (call f ss ps) =
-      IsSomeAnd (slice_get D f) (λ k. (k.strategies ≡ length (resolved_list ss)) × (k.terms ≡ length (resolved_pattern_list ps)))
+      IsSomeAnd (slice_get D f)
+      (λ k. (k.strategies ≡ length (resolved_list ss)) × (k.terms ≡ length (resolved_pattern_list ps)))
       × (AllInRange D P n m ss × ResolvedPatternsInRange n ps)
   InRange D P n m (congruence h ss) = AllInRange D P n m ss
   InRange D P n m (tail_congruence ss s) = AllInRange D P n m ss × InRange D P n m s

@@ -65,7 +65,8 @@ fresh_follows (unchanged t) u = tt
 fresh_follows (altered a) u = tt
 fresh_follows (fresh t) u = tt
 
-root_alone : (A : Type 0) (u : Tree) (x : List ℕ) → IsPlace (replaced u) x → A ⊎ IsOf x (record { path = []; new = u } ∷ [])
+root_alone : (A : Type 0) (u : Tree) (x : List ℕ) → IsPlace (replaced u) x
+    → A ⊎ IsOf x (record { path = []; new = u } ∷ [])
 root_alone A u [] h = inr (inl refl)
 root_alone A u (i ∷ x) h = absurd h
 

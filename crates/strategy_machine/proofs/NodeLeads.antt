@@ -57,7 +57,8 @@ one_has [] i c h e = absurd (cc)
 one_has (p ∷ ps) zero c h e = let is : p ≡ c = cc in subst Has is h.0
 one_has (p ∷ ps) (suc i) c h e = one_has ps i c h.1 e
 
-pub child_has : (node : Standing) (parts : List Standing) (i : ℕ) (c : Standing) → PartsStand node parts → slice_get (parts_now node parts) i ≡ Some c → Has c
+pub child_has : (node : Standing) (parts : List Standing) (i : ℕ) (c : Standing) → PartsStand node parts
+    → slice_get (parts_now node parts) i ≡ Some c → Has c
 child_has node parts i c h e = one_has (parts_now node parts) i c h.have e
 
 -- ---- the node over them
@@ -65,7 +66,8 @@ child_has node parts i c h e = one_has (parts_now node parts) i c h.have e
 pub parts_can_hold : (node q : Standing) (qs : List Standing) → PartsStand node (q ∷ qs) → CanHold node (q ∷ qs)
 parts_can_hold node q qs h = followers_can_stand node (q ∷ qs) h.follow
 
-pub node_follows : (node : Standing) (parts : List Standing) → PartsStand node parts → Follows node (node_now node parts)
+pub node_follows : (node : Standing) (parts : List Standing) → PartsStand node parts
+    → Follows node (node_now node parts)
 node_follows node [] h = follows_itself node
 node_follows node (q ∷ qs) h = same_root_follows node (q ∷ qs)
 
@@ -92,45 +94,59 @@ length-follow [] (q ∷ qs) h = absurd h
 length-follow (p ∷ ps) [] h = absurd h
 length-follow (p ∷ ps) (q ∷ qs) h = ap suc (length-follow ps qs h.1)
 
-pub part_count : (node : Standing) (parts : List Standing) → PartsStand node parts → length (parts_now node parts) ≡ length (children (standing_tree node))
+pub part_count : (node : Standing) (parts : List Standing) → PartsStand node parts
+    → length (parts_now node parts) ≡ length (children (standing_tree node))
 part_count node parts h =
     length-follow (standing_children node) (parts_now node parts) h.follow
     ∙ sym (length-map_tree (standing_children node)) ∙ ap length (trees_of_children node)
 
-pub tree_now : (node : Standing) (parts : List Standing) → PartsStand node parts → standing_tree (node_now node parts) ≡ with_children (standing_tree node) (map standing_tree (parts_now node parts))
-tree_now node [] h = sym (ap (with_children (standing_tree node)) (trees_of_children node) ∙ same_children (standing_tree node))
+pub tree_now : (node : Standing) (parts : List Standing) → PartsStand node parts → standing_tree (node_now node parts)
+    ≡ with_children (standing_tree node) (map standing_tree (parts_now node parts))
+tree_now node [] h =
+    sym (ap (with_children (standing_tree node)) (trees_of_children node) ∙ same_children (standing_tree node))
 tree_now node (q ∷ qs) h = tree_over_children node (q ∷ qs) (parts_can_hold node q qs h)
 
-pub trees_now : (node : Standing) (parts : List Standing) → PartsStand node parts → children (standing_tree (node_now node parts)) ≡ map standing_tree (parts_now node parts)
+pub trees_now : (node : Standing) (parts : List Standing) → PartsStand node parts
+    → children (standing_tree (node_now node parts)) ≡ map standing_tree (parts_now node parts)
 trees_now node parts h =
     ap children (tree_now node parts h)
-    ∙ children-with_children (standing_tree node) (map standing_tree (parts_now node parts)) (length-map_tree (parts_now node parts) ∙ part_count node parts h)
+    ∙ children-with_children (standing_tree node) (map standing_tree (parts_now node parts))
+    (length-map_tree (parts_now node parts) ∙ part_count node parts h)
 
-pub node_count : (node : Standing) (parts : List Standing) → PartsStand node parts → length (children (standing_tree (node_now node parts))) ≡ length (children (standing_tree node))
-node_count node parts h = ap length (trees_now node parts h) ∙ length-map_tree (parts_now node parts) ∙ part_count node parts h
+pub node_count : (node : Standing) (parts : List Standing) → PartsStand node parts
+    → length (children (standing_tree (node_now node parts))) ≡ length (children (standing_tree node))
+node_count node parts h = ap length (trees_now node parts h) ∙ length-map_tree (parts_now node parts)
+    ∙ part_count node parts h
 
-pub node_tree : (node : Standing) (parts : List Standing) (i : ℕ) (c : Standing) → PartsStand node parts → slice_get (parts_now node parts) i ≡ Some c → slice_get (children (standing_tree (node_now node parts))) i ≡ Some (standing_tree c)
+pub node_tree : (node : Standing) (parts : List Standing) (i : ℕ) (c : Standing) → PartsStand node parts
+    → slice_get (parts_now node parts) i ≡ Some c
+    → slice_get (children (standing_tree (node_now node parts))) i ≡ Some (standing_tree c)
 node_tree node parts i c h e =
-    ap (λ l. slice_get l i) (trees_now node parts h) ∙ slice_get-map standing_tree (parts_now node parts) i ∙ ap (option_map standing_tree) e
+    ap (λ l. slice_get l i) (trees_now node parts h) ∙ slice_get-map standing_tree (parts_now node parts) i
+    ∙ ap (option_map standing_tree) e
 
 -- ---- one of them set
 
 -- an index that had a part still has one
-set_some : (node : Standing) (ps : List Standing) (i : ℕ) (c r : Standing) → slice_get ps i ≡ Some c → parts_now node (slice_set ps i r) ≡ slice_set ps i r
+set_some : (node : Standing) (ps : List Standing) (i : ℕ) (c r : Standing) → slice_get ps i ≡ Some c
+    → parts_now node (slice_set ps i r) ≡ slice_set ps i r
 set_some node [] i c r e = absurd (cc)
 set_some node (p ∷ ps) zero c r e = refl
 set_some node (p ∷ ps) (suc i) c r e = refl
 
-set_over : (node : Standing) (ps : List Standing) (i : ℕ) (c r : Standing) → slice_get ps i ≡ Some c → node_now node (slice_set ps i r) ≡ with_standing node (slice_set ps i r)
+set_over : (node : Standing) (ps : List Standing) (i : ℕ) (c r : Standing) → slice_get ps i ≡ Some c
+    → node_now node (slice_set ps i r) ≡ with_standing node (slice_set ps i r)
 set_over node [] i c r e = absurd (cc)
 set_over node (p ∷ ps) zero c r e = refl
 set_over node (p ∷ ps) (suc i) c r e = refl
 
-set_follow : (ps qs : List Standing) (i : ℕ) (c r : Standing) → AllFollow ps qs → slice_get qs i ≡ Some c → Follows c r → AllFollow ps (slice_set qs i r)
+set_follow : (ps qs : List Standing) (i : ℕ) (c r : Standing) → AllFollow ps qs → slice_get qs i ≡ Some c → Follows c r
+    → AllFollow ps (slice_set qs i r)
 set_follow [] [] i c r h e f = tt
 set_follow [] (q ∷ qs) i c r h e f = absurd h
 set_follow (p ∷ ps) [] i c r h e f = absurd h
-set_follow (p ∷ ps) (q ∷ qs) zero c r h e f = let is : q ≡ c = cc in (follows_on p q r h.0 (subst (λ x. Follows x r) (sym is) f), h.1)
+set_follow (p ∷ ps) (q ∷ qs) zero c r h e f = let is : q ≡ c = cc in
+    (follows_on p q r h.0 (subst (λ x. Follows x r) (sym is) f), h.1)
 set_follow (p ∷ ps) (q ∷ qs) (suc i) c r h e f = (h.0, set_follow ps qs i c r h.1 e f)
 
 set_have : (qs : List Standing) (i : ℕ) (r : Standing) → AllHave qs → Has r → AllHave (slice_set qs i r)
@@ -138,17 +154,21 @@ set_have [] i r h k = tt
 set_have (q ∷ qs) zero r h k = (k, h.1)
 set_have (q ∷ qs) (suc i) r h k = (h.0, set_have qs i r h.1 k)
 
-set_stands : (node : Standing) (parts : List Standing) (i : ℕ) (c r : Standing) → PartsStand node parts → slice_get (parts_now node parts) i ≡ Some c → Follows c r → Has r
+set_stands : (node : Standing) (parts : List Standing) (i : ℕ) (c r : Standing) → PartsStand node parts
+    → slice_get (parts_now node parts) i ≡ Some c → Follows c r → Has r
     → PartsStand node (slice_set (parts_now node parts) i r)
 set_stands node parts i c r h e f k =
     let ps = parts_now node parts in
     let is = sym (set_some node ps i c r e) in record {
-      follow = subst (AllFollow (standing_children node)) is (set_follow (standing_children node) ps i c r h.follow e f);
+      follow =
+          subst (AllFollow (standing_children node)) is (set_follow (standing_children node) ps i c r h.follow e f);
       have = subst AllHave is (set_have ps i r h.have k);
     }
 
-pub node_written : (node : Standing) (parts : List Standing) (i : ℕ) (c r : Standing) → PartsStand node parts → slice_get (parts_now node parts) i ≡ Some c → PartsStand node (slice_set (parts_now node parts) i r)
-    → standing_tree (node_now node (slice_set (parts_now node parts) i r)) ≡ with_child (standing_tree (node_now node parts)) i (standing_tree r)
+pub node_written : (node : Standing) (parts : List Standing) (i : ℕ) (c r : Standing) → PartsStand node parts
+    → slice_get (parts_now node parts) i ≡ Some c → PartsStand node (slice_set (parts_now node parts) i r)
+    → standing_tree (node_now node (slice_set (parts_now node parts) i r))
+    ≡ with_child (standing_tree (node_now node parts)) i (standing_tree r)
 node_written node parts i c r h e k =
     let ps = parts_now node parts in
     let t = standing_tree node in
@@ -159,21 +179,25 @@ node_written node parts i c r h e k =
     ∙ ap (with_children t) (map-set standing_tree ps i r)
     ∙ sym (with_children-with_children t us vs)
     ∙ sym (ap (λ x. with_children x vs) (tree_now node parts h))
-    ∙ ap (λ l. with_children (standing_tree (node_now node parts)) (slice_set l i (standing_tree r))) (sym (trees_now node parts h))
+    ∙ ap (λ l. with_children (standing_tree (node_now node parts)) (slice_set l i (standing_tree r)))
+    (sym (trees_now node parts h))
 
 -- ---- its places
 
-nth_get : (ps : List Standing) (i : ℕ) (c : Standing) → slice_get ps i ≡ Some c → nth_change (standing_changes ps) i ≡ standing_change c
+nth_get : (ps : List Standing) (i : ℕ) (c : Standing) → slice_get ps i ≡ Some c
+    → nth_change (standing_changes ps) i ≡ standing_change c
 nth_get [] i c e = absurd (cc)
 nth_get (p ∷ ps) zero c e = let is : p ≡ c = cc in ap standing_change is
 nth_get (p ∷ ps) (suc i) c e = nth_get ps i c e
 
-nth_set : (ps : List Standing) (i : ℕ) (c r : Standing) → slice_get ps i ≡ Some c → nth_change (standing_changes (slice_set ps i r)) i ≡ standing_change r
+nth_set : (ps : List Standing) (i : ℕ) (c r : Standing) → slice_get ps i ≡ Some c
+    → nth_change (standing_changes (slice_set ps i r)) i ≡ standing_change r
 nth_set [] i c r e = absurd (cc)
 nth_set (p ∷ ps) zero c r e = refl
 nth_set (p ∷ ps) (suc i) c r e = nth_set ps i c r e
 
-nth_other : (ps : List Standing) (i j : ℕ) (r : Standing) → (i ≡ j → ⊥) → nth_change (standing_changes (slice_set ps i r)) j ≡ nth_change (standing_changes ps) j
+nth_other : (ps : List Standing) (i j : ℕ) (r : Standing)
+    → (i ≡ j → ⊥) → nth_change (standing_changes (slice_set ps i r)) j ≡ nth_change (standing_changes ps) j
 nth_other [] i j r n = refl
 nth_other (p ∷ ps) zero zero r n = absurd (n refl)
 nth_other (p ∷ ps) zero (suc j) r n = refl
@@ -190,7 +214,8 @@ change_stand u same = refl
 change_stand u (inside cs) = refl
 change_stand u (replaced t) = refl
 
-nth_stand : (us : List Tree) (cs : Changes) (j : ℕ) → HaveAllPlaces us cs → nth_change (standing_changes (stand_all us cs)) j ≡ nth_change cs j
+nth_stand : (us : List Tree) (cs : Changes) (j : ℕ) → HaveAllPlaces us cs
+    → nth_change (standing_changes (stand_all us cs)) j ≡ nth_change cs j
 nth_stand us no_more j h = nth_same us j
 nth_stand [] (and_then c cs) j h = absurd h
 nth_stand (u ∷ us) (and_then c cs) zero h = change_stand u c
@@ -209,7 +234,8 @@ parted_same us = record { place = at_none; within = λ x h. absurd h }
     at_none [] h = absurd h
     at_none (j ∷ x) h = subst (λ c. IsPlace c x) (nth_same us j) h
 
-parted_inside : (us : List Tree) (cs : Changes) → HaveAllPlaces us cs → Parted (inside cs) (standing_changes (stand_all us cs))
+parted_inside : (us : List Tree) (cs : Changes) → HaveAllPlaces us cs
+    → Parted (inside cs) (standing_changes (stand_all us cs))
 parted_inside us cs h = record { place = at_place; within = in_place }
   where
     at_place : (x : List ℕ) → IsPlace (inside (standing_changes (stand_all us cs))) x → IsPlace (inside cs) x
@@ -225,40 +251,52 @@ parted_itself cs = record { place = λ x h. h; within = λ x h. h }
 
 -- One more edit, in child i.
 pub record OneMore (c : Change) (ps : List Standing) (i : ℕ) (d : Edits) (r : Standing) : Type 0 where
-  pub among : (x : List ℕ) → IsPlace (inside (standing_changes (slice_set ps i r))) x → IsPlace c x ⊎ IsOf x (prefixed (i ∷ []) d)
-  pub covers : (x : List ℕ) → IsWithin c x ⊎ IsOf x (prefixed (i ∷ []) d) → IsWithin (inside (standing_changes (slice_set ps i r))) x
+  pub among : (x : List ℕ) → IsPlace (inside (standing_changes (slice_set ps i r))) x
+      → IsPlace c x ⊎ IsOf x (prefixed (i ∷ []) d)
+  pub covers : (x : List ℕ) → IsWithin c x ⊎ IsOf x (prefixed (i ∷ []) d)
+      → IsWithin (inside (standing_changes (slice_set ps i r))) x
 
-place_moves : (ps : List Standing) (i : ℕ) (c r : Standing) (d : Edits) (x : List ℕ) → slice_get ps i ≡ Some c → Leads c d r
-    → IsPlace (inside (standing_changes (slice_set ps i r))) x → IsPlace (inside (standing_changes ps)) x ⊎ IsOf x (prefixed (i ∷ []) d)
+place_moves : (ps : List Standing) (i : ℕ) (c r : Standing) (d : Edits) (x : List ℕ) → slice_get ps i ≡ Some c
+    → Leads c d r
+    → IsPlace (inside (standing_changes (slice_set ps i r))) x
+    → IsPlace (inside (standing_changes ps)) x ⊎ IsOf x (prefixed (i ∷ []) d)
 place_moves ps i c r d [] e l h = absurd h
 place_moves ps i c r d (j ∷ x) e l h = elim (cases_eq i j) [
   | inr differ ↦ inl (subst (λ k. IsPlace k x) (nth_other ps i j r differ) h)
   | inl is ↦
-      let here : IsPlace (standing_change r) x = subst (λ k. IsPlace k x) (ap (nth_change (standing_changes (slice_set ps i r))) (sym is) ∙ nth_set ps i c r e) h in
+      let here : IsPlace (standing_change r) x = subst (λ k. IsPlace k x)
+      (ap (nth_change (standing_changes (slice_set ps i r))) (sym is) ∙ nth_set ps i c r e) h in
       elim (l.among x here) [
-        | inl before ↦ inl (subst (λ k. IsPlace k x) (sym (ap (nth_change (standing_changes ps)) (sym is) ∙ nth_get ps i c e)) before)
+        | inl before ↦ inl
+            (subst (λ k. IsPlace k x) (sym (ap (nth_change (standing_changes ps)) (sym is) ∙ nth_get ps i c e)) before)
         | inr edit ↦ inr (subst (λ k. IsOf (k ∷ x) (prefixed (i ∷ []) d)) is (of_prefixed (i ∷ []) x d edit))
       ]
 ]
 
-within_moves : (ps : List Standing) (i : ℕ) (c r : Standing) (d : Edits) (x : List ℕ) → slice_get ps i ≡ Some c → Leads c d r
+within_moves : (ps : List Standing) (i : ℕ) (c r : Standing) (d : Edits) (x : List ℕ) → slice_get ps i ≡ Some c
+    → Leads c d r
     → IsWithin (inside (standing_changes ps)) x → IsWithin (inside (standing_changes (slice_set ps i r))) x
 within_moves ps i c r d [] e l h = absurd h
 within_moves ps i c r d (j ∷ x) e l h = elim (cases_eq i j) [
   | inr differ ↦ subst (λ k. IsWithin k x) (sym (nth_other ps i j r differ)) h
   | inl is ↦
-      let here : IsWithin (standing_change c) x = subst (λ k. IsWithin k x) (ap (nth_change (standing_changes ps)) (sym is) ∙ nth_get ps i c e) h in
-      subst (λ k. IsWithin k x) (sym (ap (nth_change (standing_changes (slice_set ps i r))) (sym is) ∙ nth_set ps i c r e)) (l.covers x (inl here))
+      let here : IsWithin (standing_change c) x =
+      subst (λ k. IsWithin k x) (ap (nth_change (standing_changes ps)) (sym is) ∙ nth_get ps i c e) h in
+      subst (λ k. IsWithin k x)
+      (sym (ap (nth_change (standing_changes (slice_set ps i r))) (sym is) ∙ nth_set ps i c r e))
+      (l.covers x (inl here))
 ]
 
-edit_within : (ps : List Standing) (i : ℕ) (c r : Standing) (d : Edits) (x : List ℕ) → slice_get ps i ≡ Some c → Leads c d r
+edit_within : (ps : List Standing) (i : ℕ) (c r : Standing) (d : Edits) (x : List ℕ) → slice_get ps i ≡ Some c
+    → Leads c d r
     → IsOf x (prefixed (i ∷ []) d) → IsWithin (inside (standing_changes (slice_set ps i r))) x
 edit_within ps i c r d x e l h =
     let w = prefixed_of (i ∷ []) x d h in
     subst (IsWithin (inside (standing_changes (slice_set ps i r)))) (sym w.1)
     (subst (λ k. IsWithin k w.0) (sym (nth_set ps i c r e)) (l.covers w.0 (inr w.2)))
 
-one_more : (b : Change) (ps : List Standing) (i : ℕ) (c r : Standing) (d : Edits) → Parted b (standing_changes ps) → slice_get ps i ≡ Some c → Leads c d r → OneMore b ps i d r
+one_more : (b : Change) (ps : List Standing) (i : ℕ) (c r : Standing) (d : Edits) → Parted b (standing_changes ps)
+    → slice_get ps i ≡ Some c → Leads c d r → OneMore b ps i d r
 one_more b ps i c r d p e l = record {
   among = λ x h. elim (place_moves ps i c r d x e l h) [
     | inl before ↦ inl (p.place x before)
@@ -282,48 +320,60 @@ root_stays : (A : Type 0) (t u : Tree) (x : List ℕ) → IsPlace (replaced u) x
 root_stays A t u [] h = inl tt
 root_stays A t u (i ∷ x) h = absurd h
 
-moves : (node : Standing) (parts : List Standing) (i : ℕ) (c r : Standing) (d : Edits) → Has node → slice_get (parts_now node parts) i ≡ Some c → Leads c d r
+moves : (node : Standing) (parts : List Standing) (i : ℕ) (c r : Standing) (d : Edits) → Has node
+    → slice_get (parts_now node parts) i ≡ Some c → Leads c d r
     → Moves (node_now node parts) (with_standing node (slice_set (parts_now node parts) i r)) (prefixed (i ∷ []) d)
 moves (unchanged t) [] i c r d n e l =
     let o = one_more same (map unchanged (children t)) i c r d (parted_same (children t)) e l in
     record { follows = refl; among = o.among; covers = o.covers }
 moves (altered a) [] i c r d n e l =
-    let o = one_more (inside a.changes) (stand_all (children a.before) a.changes) i c r d (parted_inside (children a.before) a.changes n) e l in
+    let o = one_more (inside a.changes) (stand_all (children a.before) a.changes) i c r d
+    (parted_inside (children a.before) a.changes n) e l in
     record { follows = refl; among = o.among; covers = o.covers }
 moves (fresh t) [] i c r d n e l = record {
   follows = tt;
-  among = λ x. root_stays (IsOf x (prefixed (i ∷ []) d)) t (with_children t (map standing_tree (slice_set (map fresh (children t)) i r))) x;
+  among = λ x. root_stays (IsOf x (prefixed (i ∷ []) d)) t
+      (with_children t (map standing_tree (slice_set (map fresh (children t)) i r))) x;
   covers = λ x h. tt;
 }
 moves (unchanged t) (q ∷ qs) i c r d n e l =
-    let o = one_more (inside (standing_changes (q ∷ qs))) (q ∷ qs) i c r d (parted_itself (standing_changes (q ∷ qs))) e l in
+    let o =
+    one_more (inside (standing_changes (q ∷ qs))) (q ∷ qs) i c r d (parted_itself (standing_changes (q ∷ qs))) e l in
     record { follows = refl; among = o.among; covers = o.covers }
 moves (altered a) (q ∷ qs) i c r d n e l =
-    let o = one_more (inside (standing_changes (q ∷ qs))) (q ∷ qs) i c r d (parted_itself (standing_changes (q ∷ qs))) e l in
+    let o =
+    one_more (inside (standing_changes (q ∷ qs))) (q ∷ qs) i c r d (parted_itself (standing_changes (q ∷ qs))) e l in
     record { follows = refl; among = o.among; covers = o.covers }
 moves (fresh t) (q ∷ qs) i c r d n e l = record {
   follows = tt;
-  among = λ x. root_stays (IsOf x (prefixed (i ∷ []) d)) (with_children t (map standing_tree (q ∷ qs))) (with_children t (map standing_tree (slice_set (q ∷ qs) i r))) x;
+  among = λ x. root_stays (IsOf x (prefixed (i ∷ []) d))
+      (with_children t (map standing_tree (q ∷ qs))) (with_children t (map standing_tree (slice_set (q ∷ qs) i r))) x;
   covers = λ x h. tt;
 }
 
-set_leads : (node : Standing) (parts : List Standing) (i : ℕ) (c r : Standing) (d : Edits) → Has node → PartsStand node parts → slice_get (parts_now node parts) i ≡ Some c → Leads c d r
+set_leads : (node : Standing) (parts : List Standing) (i : ℕ) (c r : Standing) (d : Edits) → Has node
+    → PartsStand node parts → slice_get (parts_now node parts) i ≡ Some c → Leads c d r
     → PartsStand node (slice_set (parts_now node parts) i r)
     → Leads (node_now node parts) (prefixed (i ∷ []) d) (node_now node (slice_set (parts_now node parts) i r))
 set_leads node parts i c r d n h e l k =
     let ps = parts_now node parts in
     let m : Moves (node_now node parts) (node_now node (slice_set ps i r)) (prefixed (i ∷ []) d) =
-    subst (λ x. Moves (node_now node parts) x (prefixed (i ∷ []) d)) (sym (set_over node ps i c r e)) (moves node parts i c r d n e l) in record {
+    subst (λ x. Moves (node_now node parts) x (prefixed (i ∷ []) d)) (sym (set_over node ps i c r e))
+    (moves node parts i c r d n e l) in record {
       follows = m.follows;
-      made = subst (Replaces (prefixed (i ∷ []) d) (standing_tree (node_now node parts))) (sym (node_written node parts i c r h e k))
-          (replaces-child d i (standing_tree (node_now node parts)) (standing_tree c) (standing_tree r) (node_tree node parts i c h e) l.made);
+      made = subst (Replaces (prefixed (i ∷ []) d) (standing_tree (node_now node parts)))
+          (sym (node_written node parts i c r h e k))
+          (replaces-child d i (standing_tree (node_now node parts)) (standing_tree c) (standing_tree r)
+          (node_tree node parts i c h e) l.made);
       has = node_has node (slice_set ps i r) n k;
       among = m.among;
       covers = m.covers;
     }
 
-pub leads_child : (node : Standing) (parts new : List Standing) (i : ℕ) (c r : Standing) (d : Edits) → Has node → PartsStand node parts → slice_get (parts_now node parts) i ≡ Some c → Leads c d r
-    → new ≡ slice_set (parts_now node parts) i r → Leads (node_now node parts) (prefixed (i ∷ []) d) (node_now node new) × PartsStand node new
+pub leads_child : (node : Standing) (parts new : List Standing) (i : ℕ) (c r : Standing) (d : Edits) → Has node
+    → PartsStand node parts → slice_get (parts_now node parts) i ≡ Some c → Leads c d r
+    → new ≡ slice_set (parts_now node parts) i r
+    → Leads (node_now node parts) (prefixed (i ∷ []) d) (node_now node new) × PartsStand node new
 leads_child node parts new i c r d n h e l is =
     let k = set_stands node parts i c r h e l.follows l.has in
     subst (λ x. Leads (node_now node parts) (prefixed (i ∷ []) d) (node_now node x) × PartsStand node x) (sym is)

@@ -50,7 +50,8 @@ mutual
   place_is (replaced u) x (inl h) = subst (IsPlace (replaced u)) h tt
   place_is (replaced u) x (inr h) = absurd h
 
-  place_from : (cs : Changes) (k : ℕ) (x : List ℕ) → IsOf x (places_from k cs) → (j : ℕ) × (y : List ℕ) × (x ≡ (k + j) ∷ y) × IsPlace (nth_change cs j) y
+  place_from : (cs : Changes) (k : ℕ) (x : List ℕ) → IsOf x (places_from k cs)
+      → (j : ℕ) × (y : List ℕ) × (x ≡ (k + j) ∷ y) × IsPlace (nth_change cs j) y
   place_from no_more k x h = absurd h
   place_from (and_then c cs) k x h = elim (of_either x (below k (places c)) (places_from (k + 1) cs) h) [
     | inl here ↦
@@ -73,12 +74,16 @@ mutual
       (r.0, r.1, (r.2.0, ap (λ k. k ∷ x) (sym first) ∙ r.2.1))
   within_place (replaced u) x h = ([], inl refl, (x, refl))
 
-  within_from : (cs : Changes) (k j : ℕ) (x : List ℕ) → IsWithin (nth_change cs j) x → (y : List ℕ) × IsOf y (places_from k cs) × LiesWithin ((k + j) ∷ x) y
+  within_from : (cs : Changes) (k j : ℕ) (x : List ℕ) → IsWithin (nth_change cs j) x
+      → (y : List ℕ) × IsOf y (places_from k cs) × LiesWithin ((k + j) ∷ x) y
   within_from no_more k j x h = absurd h
   within_from (and_then c cs) k zero x h =
       let r = within_place c x h in
-      let first : k + 0 ≡ k = omega arith in
-      (k ∷ r.0, of_left (k ∷ r.0) (below k (places c)) (places_from (k + 1) cs) (of_prefixed (k ∷ []) r.0 (places c) r.1), (r.2.0, λ i. first i ∷ r.2.1 i))
+      let first : k + 0 ≡ k = omega arith in (
+        k ∷ r.0,
+        of_left (k ∷ r.0) (below k (places c)) (places_from (k + 1) cs) (of_prefixed (k ∷ []) r.0 (places c) r.1),
+        (r.2.0, λ i. first i ∷ r.2.1 i),
+      )
   within_from (and_then c cs) k (suc j) x h =
       let r = within_from cs (k + 1) j x h in
       let next : k + suc j ≡ (k + 1) + j = omega arith in
@@ -112,12 +117,17 @@ before_from : (i k : ℕ) (p : List ℕ) (cs : Changes) → i < k → IsBeforeAl
 before_from i k p no_more h = tt
 before_from i k p (and_then c cs) h =
     let next : i < k + 1 = omega (arith, h) in
-    before_append (i ∷ p) (below k (places c)) (places_from (k + 1) cs) (before_later i k p (places c) h) (before_from i (k + 1) p cs next)
+    before_append (i ∷ p) (below k (places c)) (places_from (k + 1) cs) (before_later i k p (places c) h)
+    (before_from i (k + 1) p cs next)
 
-in_order_then : (i k : ℕ) (e : Edits) (cs : Changes) → i < k → AreInOrder e → AreInOrder (places_from k cs) → AreInOrder (below i e ++ places_from k cs)
+in_order_then : (i k : ℕ) (e : Edits) (cs : Changes) → i < k → AreInOrder e → AreInOrder (places_from k cs)
+    → AreInOrder (below i e ++ places_from k cs)
 in_order_then i k [] cs less h g = g
-in_order_then i k (x ∷ e) cs less h g =
-    (before_append (i ∷ x.path) (below i e) (places_from k cs) (before_all_prefixed (i ∷ []) x.path e h.0) (before_from i k x.path cs less), in_order_then i k e cs less h.1 g)
+in_order_then i k (x ∷ e) cs less h g = (
+  before_append (i ∷ x.path) (below i e) (places_from k cs) (before_all_prefixed (i ∷ []) x.path e h.0)
+      (before_from i k x.path cs less),
+  in_order_then i k e cs less h.1 g,
+)
 
 mutual
   places_in_order : (c : Change) → AreInOrder (places c)
@@ -133,8 +143,13 @@ mutual
 
 -- ---- the places of what edits amount to
 
-pub outermost : (p : List ℕ) (t : Tree) (e : Edits) (q : Standing) → Leads (unchanged t) e q → AreOutermost (prefixed p (places (standing_change q))) (prefixed p e)
-outermost p t e q h = record { order = prefixed_in_order p (places (standing_change q)) (places_in_order (standing_change q)); among = of_edits; covers = covered }
+pub outermost : (p : List ℕ) (t : Tree) (e : Edits) (q : Standing) → Leads (unchanged t) e q
+    → AreOutermost (prefixed p (places (standing_change q))) (prefixed p e)
+outermost p t e q h = record {
+  order = prefixed_in_order p (places (standing_change q)) (places_in_order (standing_change q));
+  among = of_edits;
+  covers = covered;
+}
   where
     edit : (y : List ℕ) → ⊥ ⊎ IsOf y e → IsOf y e
     edit y (inl never) = absurd never
@@ -143,10 +158,15 @@ outermost p t e q h = record { order = prefixed_in_order p (places (standing_cha
     of_edits : (x : List ℕ) → IsOf x (prefixed p (places (standing_change q))) → IsOf x (prefixed p e)
     of_edits x is =
         let r = prefixed_of p x (places (standing_change q)) is in
-        subst (λ l. IsOf l (prefixed p e)) (sym r.1) (of_prefixed p r.0 e (edit r.0 (h.among r.0 (place_is (standing_change q) r.0 r.2))))
+        subst (λ l. IsOf l (prefixed p e)) (sym r.1)
+        (of_prefixed p r.0 e (edit r.0 (h.among r.0 (place_is (standing_change q) r.0 r.2))))
 
-    covered : (x : List ℕ) → IsOf x (prefixed p e) → (y : List ℕ) × IsOf y (prefixed p (places (standing_change q))) × LiesWithin x y
+    covered : (x : List ℕ) → IsOf x (prefixed p e)
+        → (y : List ℕ) × IsOf y (prefixed p (places (standing_change q))) × LiesWithin x y
     covered x is =
         let r = prefixed_of p x e is in
-        let w = within_place (standing_change q) r.0 (h.covers r.0 (inr r.2)) in
-        (p ++ w.0, of_prefixed p w.0 (places (standing_change q)) w.1, (w.2.0, r.1 ∙ ap (λ l. p ++ l) w.2.1 ∙ sym (append_assoc p w.0 w.2.0)))
+        let w = within_place (standing_change q) r.0 (h.covers r.0 (inr r.2)) in (
+          p ++ w.0,
+          of_prefixed p w.0 (places (standing_change q)) w.1,
+          (w.2.0, r.1 ∙ ap (λ l. p ++ l) w.2.1 ∙ sym (append_assoc p w.0 w.2.0)),
+        )

@@ -34,7 +34,8 @@ step_of (frames.Head s n w) = w.index ∷ []
 step_of f = []
 
 -- The frame of the first slot, and what that slot leaves of each stack.
-pub record Outermost (x : Slot) (xs : List Slot) (ws : List Walk) (ss : List Start) (fs : List Front) (ks : List First) : Type 0 where
+pub record Outermost (x : Slot) (xs : List Slot) (ws : List Walk) (ss : List Start) (fs : List Front)
+    (ks : List First) : Type 0 where
   pub frame : Frame
   pub walks : List Walk
   pub starts : List Start
@@ -43,72 +44,214 @@ pub record Outermost (x : Slot) (xs : List Slot) (ws : List Walk) (ss : List Sta
   pub fits : Fits xs walks starts fronts firsts
   pub is : frames_of (x ∷ xs) ws ss fs ks ≡ frame ∷ frames_of xs walks starts fronts firsts
   pub before : (ys : List Slot) (vs : List Walk) (ts : List Start) (gs : List Front) (ls : List First)
-      → frames_of ((x ∷ xs) ++ ys) (ws ++ vs) (ss ++ ts) (fs ++ gs) (ks ++ ls) ≡ frame ∷ frames_of (xs ++ ys) (walks ++ vs) (starts ++ ts) (fronts ++ gs) (firsts ++ ls)
+      → frames_of ((x ∷ xs) ++ ys) (ws ++ vs) (ss ++ ts) (fs ++ gs) (ks ++ ls)
+      ≡ frame ∷ frames_of (xs ++ ys) (walks ++ vs) (starts ++ ts) (fronts ++ gs) (firsts ++ ls)
   pub slot : slot_of frame ≡ x
   pub steps : map (λ w. w.index) ws ≡ step_of frame ++ map (λ w. w.index) walks
 
-pub outermost : (x : Slot) (xs : List Slot) (ws : List Walk) (ss : List Start) (fs : List Front) (ks : List First) → Fits (x ∷ xs) ws ss fs ks → Outermost x xs ws ss fs ks
+pub outermost : (x : Slot) (xs : List Slot) (ws : List Walk) (ss : List Start) (fs : List Front) (ks : List First)
+    → Fits (x ∷ xs) ws ss fs ks → Outermost x xs ws ss fs ks
 outermost (Then s n) xs ws ss fs ks h =
-    record { frame = frames.Then s n; walks = ws; starts = ss; fronts = fs; firsts = ks; fits = record { walks = h.walks; starts = h.starts; fronts = h.fronts; firsts = h.firsts }; is = refl; before = λ ys vs ts gs ls. refl; slot = refl; steps = refl }
+    record {
+      frame = frames.Then s n;
+      walks = ws;
+      starts = ss;
+      fronts = fs;
+      firsts = ks;
+      fits = record { walks = h.walks; starts = h.starts; fronts = h.fronts; firsts = h.firsts };
+      is = refl;
+      before = λ ys vs ts gs ls. refl;
+      slot = refl;
+      steps = refl;
+    }
 outermost (Choose s r n m) xs ws [] fs ks h = absurd (omega (arith, h.starts))
 outermost (Choose s r n m) xs ws (p ∷ ss) fs ks h =
-    record { frame = frames.Choose s r n p.part p.edits m; walks = ws; starts = ss; fronts = fs; firsts = ks; fits = record { walks = h.walks; starts = omega (arith, h.starts); fronts = h.fronts; firsts = h.firsts }; is = refl; before = λ ys vs ts gs ls. refl; slot = refl; steps = refl }
+    record {
+      frame = frames.Choose s r n p.part p.edits m;
+      walks = ws;
+      starts = ss;
+      fronts = fs;
+      firsts = ks;
+      fits = record { walks = h.walks; starts = omega (arith, h.starts); fronts = h.fronts; firsts = h.firsts };
+      is = refl;
+      before = λ ys vs ts gs ls. refl;
+      slot = refl;
+      steps = refl;
+    }
 outermost Restore xs ws [] fs ks h = absurd (omega (arith, h.starts))
 outermost Restore xs ws (p ∷ ss) fs ks h =
-    record { frame = frames.Restore p.part p.edits; walks = ws; starts = ss; fronts = fs; firsts = ks; fits = record { walks = h.walks; starts = omega (arith, h.starts); fronts = h.fronts; firsts = h.firsts }; is = refl; before = λ ys vs ts gs ls. refl; slot = refl; steps = refl }
+    record {
+      frame = frames.Restore p.part p.edits;
+      walks = ws;
+      starts = ss;
+      fronts = fs;
+      firsts = ks;
+      fits = record { walks = h.walks; starts = omega (arith, h.starts); fronts = h.fronts; firsts = h.firsts };
+      is = refl;
+      before = λ ys vs ts gs ls. refl;
+      slot = refl;
+      steps = refl;
+    }
 outermost (Each acts n) xs [] ss fs ks h = absurd (omega (arith, h.walks))
 outermost (Each acts n) xs (w ∷ ws) ss fs ks h =
-    record { frame = frames.Each acts n w; walks = ws; starts = ss; fronts = fs; firsts = ks; fits = record { walks = omega (arith, h.walks); starts = h.starts; fronts = h.fronts; firsts = h.firsts }; is = refl; before = λ ys vs ts gs ls. refl; slot = refl; steps = refl }
+    record {
+      frame = frames.Each acts n w;
+      walks = ws;
+      starts = ss;
+      fronts = fs;
+      firsts = ks;
+      fits = record { walks = omega (arith, h.walks); starts = h.starts; fronts = h.fronts; firsts = h.firsts };
+      is = refl;
+      before = λ ys vs ts gs ls. refl;
+      slot = refl;
+      steps = refl;
+    }
 outermost (Leftmost s n m) xs [] ss fs ks h = absurd (omega (arith, h.walks))
 outermost (Leftmost s n m) xs (w ∷ ws) ss fs ks h =
-    record { frame = frames.Leftmost s n w m; walks = ws; starts = ss; fronts = fs; firsts = ks; fits = record { walks = omega (arith, h.walks); starts = h.starts; fronts = h.fronts; firsts = h.firsts }; is = refl; before = λ ys vs ts gs ls. refl; slot = refl; steps = refl }
+    record {
+      frame = frames.Leftmost s n w m;
+      walks = ws;
+      starts = ss;
+      fronts = fs;
+      firsts = ks;
+      fits = record { walks = omega (arith, h.walks); starts = h.starts; fronts = h.fronts; firsts = h.firsts };
+      is = refl;
+      before = λ ys vs ts gs ls. refl;
+      slot = refl;
+      steps = refl;
+    }
 outermost (Those s n m any) xs [] ss fs ks h = absurd (omega (arith, h.walks))
 outermost (Those s n m any) xs (w ∷ ws) ss fs ks h =
-    record { frame = frames.Those s n w m any; walks = ws; starts = ss; fronts = fs; firsts = ks; fits = record { walks = omega (arith, h.walks); starts = h.starts; fronts = h.fronts; firsts = h.firsts }; is = refl; before = λ ys vs ts gs ls. refl; slot = refl; steps = refl }
+    record {
+      frame = frames.Those s n w m any;
+      walks = ws;
+      starts = ss;
+      fronts = fs;
+      firsts = ks;
+      fits = record { walks = omega (arith, h.walks); starts = h.starts; fronts = h.fronts; firsts = h.firsts };
+      is = refl;
+      before = λ ys vs ts gs ls. refl;
+      slot = refl;
+      steps = refl;
+    }
 outermost (Tail s n k) xs ws ss fs ks h =
-    record { frame = frames.Tail s n k; walks = ws; starts = ss; fronts = fs; firsts = ks; fits = record { walks = h.walks; starts = h.starts; fronts = h.fronts; firsts = h.firsts }; is = refl; before = λ ys vs ts gs ls. refl; slot = refl; steps = refl }
+    record {
+      frame = frames.Tail s n k;
+      walks = ws;
+      starts = ss;
+      fronts = fs;
+      firsts = ks;
+      fits = record { walks = h.walks; starts = h.starts; fronts = h.fronts; firsts = h.firsts };
+      is = refl;
+      before = λ ys vs ts gs ls. refl;
+      slot = refl;
+      steps = refl;
+    }
 outermost (Rest n k) xs ws ss [] ks h = absurd (omega (arith, h.fronts))
 outermost (Rest n k) xs ws ss (f ∷ fs) ks h =
-    record { frame = frames.Rest f.node f.parts n k; walks = ws; starts = ss; fronts = fs; firsts = ks; fits = record { walks = h.walks; starts = h.starts; fronts = omega (arith, h.fronts); firsts = h.firsts }; is = refl; before = λ ys vs ts gs ls. refl; slot = refl; steps = refl }
+    record {
+      frame = frames.Rest f.node f.parts n k;
+      walks = ws;
+      starts = ss;
+      fronts = fs;
+      firsts = ks;
+      fits = record { walks = h.walks; starts = h.starts; fronts = omega (arith, h.fronts); firsts = h.firsts };
+      is = refl;
+      before = λ ys vs ts gs ls. refl;
+      slot = refl;
+      steps = refl;
+    }
 outermost (Head s n) xs [] ss fs ks h = absurd (omega (arith, h.walks))
 outermost (Head s n) xs (w ∷ ws) ss fs ks h =
-    record { frame = frames.Head s n w; walks = ws; starts = ss; fronts = fs; firsts = ks; fits = record { walks = omega (arith, h.walks); starts = h.starts; fronts = h.fronts; firsts = h.firsts }; is = refl; before = λ ys vs ts gs ls. refl; slot = refl; steps = refl }
+    record {
+      frame = frames.Head s n w;
+      walks = ws;
+      starts = ss;
+      fronts = fs;
+      firsts = ks;
+      fits = record { walks = omega (arith, h.walks); starts = h.starts; fronts = h.fronts; firsts = h.firsts };
+      is = refl;
+      before = λ ys vs ts gs ls. refl;
+      slot = refl;
+      steps = refl;
+    }
 outermost (After k) xs ws ss fs [] h = absurd (omega (arith, h.firsts))
 outermost (After k) xs ws ss fs (a ∷ ks) h =
-    record { frame = frames.After a.node a.part k; walks = ws; starts = ss; fronts = fs; firsts = ks; fits = record { walks = h.walks; starts = h.starts; fronts = h.fronts; firsts = omega (arith, h.firsts) }; is = refl; before = λ ys vs ts gs ls. refl; slot = refl; steps = refl }
+    record {
+      frame = frames.After a.node a.part k;
+      walks = ws;
+      starts = ss;
+      fronts = fs;
+      firsts = ks;
+      fits = record { walks = h.walks; starts = h.starts; fronts = h.fronts; firsts = omega (arith, h.firsts) };
+      is = refl;
+      before = λ ys vs ts gs ls. refl;
+      slot = refl;
+      steps = refl;
+    }
 outermost (Leave n) xs ws ss fs ks h =
-    record { frame = frames.Leave n; walks = ws; starts = ss; fronts = fs; firsts = ks; fits = record { walks = h.walks; starts = h.starts; fronts = h.fronts; firsts = h.firsts }; is = refl; before = λ ys vs ts gs ls. refl; slot = refl; steps = refl }
+    record {
+      frame = frames.Leave n;
+      walks = ws;
+      starts = ss;
+      fronts = fs;
+      firsts = ks;
+      fits = record { walks = h.walks; starts = h.starts; fronts = h.fronts; firsts = h.firsts };
+      is = refl;
+      before = λ ys vs ts gs ls. refl;
+      slot = refl;
+      steps = refl;
+    }
 outermost (Cut n k) xs ws ss fs ks h =
-    record { frame = frames.Cut n k; walks = ws; starts = ss; fronts = fs; firsts = ks; fits = record { walks = h.walks; starts = h.starts; fronts = h.fronts; firsts = h.firsts }; is = refl; before = λ ys vs ts gs ls. refl; slot = refl; steps = refl }
+    record {
+      frame = frames.Cut n k;
+      walks = ws;
+      starts = ss;
+      fronts = fs;
+      firsts = ks;
+      fits = record { walks = h.walks; starts = h.starts; fronts = h.fronts; firsts = h.firsts };
+      is = refl;
+      before = λ ys vs ts gs ls. refl;
+      slot = refl;
+      steps = refl;
+    }
 
-frames-append : (xs ys : List Slot) (ws vs : List Walk) (ss ts : List Start) (fs gs : List Front) (ks ls : List First) → Fits xs ws ss fs ks
-    → frames_of (xs ++ ys) (ws ++ vs) (ss ++ ts) (fs ++ gs) (ks ++ ls) ≡ frames_of xs ws ss fs ks ++ frames_of ys vs ts gs ls
+frames-append : (xs ys : List Slot) (ws vs : List Walk) (ss ts : List Start) (fs gs : List Front) (ks ls : List First)
+    → Fits xs ws ss fs ks
+    → frames_of (xs ++ ys) (ws ++ vs) (ss ++ ts) (fs ++ gs) (ks ++ ls) ≡ frames_of xs ws ss fs ks
+    ++ frames_of ys vs ts gs ls
 frames-append [] ys ws vs ss ts fs gs ks ls h =
-    (λ i. frames_of ys (nil_from_length ws h.walks i ++ vs) (nil_from_length ss h.starts i ++ ts) (nil_from_length fs h.fronts i ++ gs) (nil_from_length ks h.firsts i ++ ls))
+    (λ i. frames_of ys (nil_from_length ws h.walks i ++ vs) (nil_from_length ss h.starts i ++ ts)
+    (nil_from_length fs h.fronts i ++ gs) (nil_from_length ks h.firsts i ++ ls))
 frames-append (x ∷ xs) ys ws vs ss ts fs gs ks ls h =
     let o = outermost x xs ws ss fs ks h in
-    o.before ys vs ts gs ls ∙ ap (λ (l : List Frame). o.frame ∷ l) (frames-append xs ys o.walks vs o.starts ts o.fronts gs o.firsts ls o.fits)
+    o.before ys vs ts gs ls
+    ∙ ap (λ (l : List Frame). o.frame ∷ l) (frames-append xs ys o.walks vs o.starts ts o.fronts gs o.firsts ls o.fits)
     ∙ ap (λ (l : List Frame). l ++ frames_of ys vs ts gs ls) (sym o.is)
 
 -- there are as many frames as slots
-pub length-frames : (xs : List Slot) (ws : List Walk) (ss : List Start) (fs : List Front) (ks : List First) → Fits xs ws ss fs ks → length (frames_of xs ws ss fs ks) ≡ length xs
+pub length-frames : (xs : List Slot) (ws : List Walk) (ss : List Start) (fs : List Front) (ks : List First)
+    → Fits xs ws ss fs ks → length (frames_of xs ws ss fs ks) ≡ length xs
 length-frames [] ws ss fs ks h = refl
 length-frames (x ∷ xs) ws ss fs ks h =
     let o = outermost x xs ws ss fs ks h in
     ap (λ (l : List Frame). length l) o.is ∙ ap suc (length-frames xs o.walks o.starts o.fronts o.firsts o.fits)
 
 -- the innermost slot is that of the innermost frame
-pub slot_ends : (xs : List Slot) (x : Slot) (ws : List Walk) (ss : List Start) (fs : List Front) (ks : List First) → Fits (xs ++ x ∷ []) ws ss fs ks → EndsWith x (frames_of (xs ++ x ∷ []) ws ss fs ks)
+pub slot_ends : (xs : List Slot) (x : Slot) (ws : List Walk) (ss : List Start) (fs : List Front) (ks : List First)
+    → Fits (xs ++ x ∷ []) ws ss fs ks → EndsWith x (frames_of (xs ++ x ∷ []) ws ss fs ks)
 slot_ends [] x ws ss fs ks h = let o = outermost x [] ws ss fs ks h in ([], o.frame, o.is, o.slot)
 slot_ends (y ∷ xs) x ws ss fs ks h =
     let o = outermost y (xs ++ x ∷ []) ws ss fs ks h in
     let r = slot_ends xs x o.walks o.starts o.fronts o.firsts o.fits in
     (o.frame ∷ r.0, r.1, o.is ∙ ap (λ (l : List Frame). o.frame ∷ l) r.2, r.3)
 
-counts-append : {A : Type 0} (p : Slot → Bool) (xs ys : List Slot) (cs bs : List A) → length cs ≡ count p xs → length bs ≡ count p ys → length (cs ++ bs) ≡ count p (xs ++ ys)
+counts-append : {A : Type 0} (p : Slot → Bool) (xs ys : List Slot) (cs bs : List A) → length cs ≡ count p xs
+    → length bs ≡ count p ys → length (cs ++ bs) ≡ count p (xs ++ ys)
 counts-append p xs ys cs bs e f = omega (arith, e, f, length-append cs bs, count-append p xs ys)
 
-counts-front : {A : Type 0} (p : Slot → Bool) (xs ys : List Slot) (cs bs : List A) → length (cs ++ bs) ≡ count p (xs ++ ys) → length bs ≡ count p ys → length cs ≡ count p xs
+counts-front : {A : Type 0} (p : Slot → Bool) (xs ys : List Slot) (cs bs : List A)
+    → length (cs ++ bs) ≡ count p (xs ++ ys) → length bs ≡ count p ys → length cs ≡ count p xs
 counts-front p xs ys cs bs e f = omega (arith, e, f, length-append cs bs, count-append p xs ys)
 
 -- ---- one slot
@@ -123,9 +266,12 @@ pub record One (x : Slot) (vs : List Walk) (ts : List Start) (gs : List Front) (
 never : {A : Type 0} → false ≡ true → A
 never e = absurd (cc)
 
-one : (x : Slot) (vs : List Walk) (ts : List Start) (gs : List Front) (ls : List First) (f : Frame) → length vs ≡ count has_walk (x ∷ []) → length ts ≡ count has_start (x ∷ []) → length gs ≡ count has_front (x ∷ []) → length ls ≡ count has_first (x ∷ [])
+one : (x : Slot) (vs : List Walk) (ts : List Start) (gs : List Front) (ls : List First) (f : Frame)
+    → length vs ≡ count has_walk (x ∷ []) → length ts ≡ count has_start (x ∷ []) → length gs
+    ≡ count has_front (x ∷ []) → length ls ≡ count has_first (x ∷ [])
     → frames_of (x ∷ []) vs ts gs ls ≡ f ∷ [] → slot_of f ≡ x → One x vs ts gs ls
-one x vs ts gs ls f a b c d e s = record { fits = record { walks = a; starts = b; fronts = c; firsts = d }; frame = f; is = e; slot = s }
+one x vs ts gs ls f a b c d e s =
+    record { fits = record { walks = a; starts = b; fronts = c; firsts = d }; frame = f; is = e; slot = s }
 
 pub one_alone : (x : Slot) → is_alone x ≡ true → One x [] [] [] []
 one_alone (Then s n) e = one _ [] [] [] [] (frames.Then s n) refl refl refl refl refl refl
@@ -142,7 +288,8 @@ one_walk (Head s n) w e = one _ (w ∷ []) [] [] [] (frames.Head s n w) refl ref
 one_walk x w e = never e
 
 pub one_start : (x : Slot) (p : Start) → has_start x ≡ true → One x [] (p ∷ []) [] []
-one_start (Choose s r n m) p e = one _ [] (p ∷ []) [] [] (frames.Choose s r n p.part p.edits m) refl refl refl refl refl refl
+one_start (Choose s r n m) p e =
+    one _ [] (p ∷ []) [] [] (frames.Choose s r n p.part p.edits m) refl refl refl refl refl refl
 one_start Restore p e = one _ [] (p ∷ []) [] [] (frames.Restore p.part p.edits) refl refl refl refl refl refl
 one_start x p e = never e
 
@@ -156,14 +303,19 @@ one_first x a e = never e
 
 -- ---- one slot after others
 
-counts_on : {A : Type 0} (p : Slot → Bool) (xs zs : List Slot) (x : Slot) (cs us bs : List A) → zs ≡ xs ++ x ∷ [] → us ≡ cs ++ bs → length cs ≡ count p xs → length bs ≡ count p (x ∷ []) → length us ≡ count p zs
-counts_on p xs zs x cs us bs e f h k = ap (λ l. length l) f ∙ counts-append p xs (x ∷ []) cs bs h k ∙ sym (ap (count p) e)
+counts_on : {A : Type 0} (p : Slot → Bool) (xs zs : List Slot) (x : Slot) (cs us bs : List A)
+    → zs ≡ xs ++ x ∷ [] → us ≡ cs ++ bs → length cs ≡ count p xs → length bs ≡ count p (x ∷ []) → length us ≡ count p zs
+counts_on p xs zs x cs us bs e f h k = ap (λ l. length l) f ∙ counts-append p xs (x ∷ []) cs bs h k
+    ∙ sym (ap (count p) e)
 
-counts_back : {A : Type 0} (p : Slot → Bool) (xs zs : List Slot) (x : Slot) (cs us bs : List A) → zs ≡ xs ++ x ∷ [] → us ≡ cs ++ bs → length us ≡ count p zs → length bs ≡ count p (x ∷ []) → length cs ≡ count p xs
-counts_back p xs zs x cs us bs e f h k = counts-front p xs (x ∷ []) cs bs (sym (ap (λ l. length l) f) ∙ h ∙ ap (count p) e) k
+counts_back : {A : Type 0} (p : Slot → Bool) (xs zs : List Slot) (x : Slot) (cs us bs : List A)
+    → zs ≡ xs ++ x ∷ [] → us ≡ cs ++ bs → length us ≡ count p zs → length bs ≡ count p (x ∷ []) → length cs ≡ count p xs
+counts_back p xs zs x cs us bs e f h k =
+    counts-front p xs (x ∷ []) cs bs (sym (ap (λ l. length l) f) ∙ h ∙ ap (count p) e) k
 
 -- The second lists are the first ones with this slot, and what it wants, at the end.
-pub record Longer (xs zs : List Slot) (x : Slot) (ws us vs : List Walk) (ss qs ts : List Start) (fs rs gs : List Front) (ks js ls : List First) : Type 0 where
+pub record Longer (xs zs : List Slot) (x : Slot) (ws us vs : List Walk) (ss qs ts : List Start) (fs rs gs : List Front)
+    (ks js ls : List First) : Type 0 where
   pub slots : zs ≡ xs ++ x ∷ []
   pub walks : us ≡ ws ++ vs
   pub starts : qs ≡ ss ++ ts
@@ -171,7 +323,8 @@ pub record Longer (xs zs : List Slot) (x : Slot) (ws us vs : List Walk) (ss qs t
   pub firsts : js ≡ ks ++ ls
   pub one : One x vs ts gs ls
 
-pub longer_fits : {xs zs : List Slot} {x : Slot} {ws us vs : List Walk} {ss qs ts : List Start} {fs rs gs : List Front} {ks js ls : List First} → Longer xs zs x ws us vs ss qs ts fs rs gs ks js ls
+pub longer_fits : {xs zs : List Slot} {x : Slot} {ws us vs : List Walk} {ss qs ts : List Start} {fs rs gs : List Front}
+    {ks js ls : List First} → Longer xs zs x ws us vs ss qs ts fs rs gs ks js ls
     → Fits xs ws ss fs ks → Fits zs us qs rs js
 longer_fits l h = record {
   walks = counts_on has_walk _ _ _ _ _ _ l.slots l.walks h.walks l.one.fits.walks;
@@ -180,7 +333,8 @@ longer_fits l h = record {
   firsts = counts_on has_first _ _ _ _ _ _ l.slots l.firsts h.firsts l.one.fits.firsts;
 }
 
-pub shorter_fits : {xs zs : List Slot} {x : Slot} {ws us vs : List Walk} {ss qs ts : List Start} {fs rs gs : List Front} {ks js ls : List First} → Longer xs zs x ws us vs ss qs ts fs rs gs ks js ls
+pub shorter_fits : {xs zs : List Slot} {x : Slot} {ws us vs : List Walk} {ss qs ts : List Start} {fs rs gs : List Front}
+    {ks js ls : List First} → Longer xs zs x ws us vs ss qs ts fs rs gs ks js ls
     → Fits zs us qs rs js → Fits xs ws ss fs ks
 shorter_fits l h = record {
   walks = counts_back has_walk _ _ _ _ _ _ l.slots l.walks h.walks l.one.fits.walks;
@@ -189,21 +343,29 @@ shorter_fits l h = record {
   firsts = counts_back has_first _ _ _ _ _ _ l.slots l.firsts h.firsts l.one.fits.firsts;
 }
 
-pub longer_frames : {xs zs : List Slot} {x : Slot} {ws us vs : List Walk} {ss qs ts : List Start} {fs rs gs : List Front} {ks js ls : List First} → Longer xs zs x ws us vs ss qs ts fs rs gs ks js ls
+pub longer_frames : {xs zs : List Slot} {x : Slot} {ws us vs : List Walk} {ss qs ts : List Start}
+    {fs rs gs : List Front} {ks js ls : List First} → Longer xs zs x ws us vs ss qs ts fs rs gs ks js ls
     → Fits xs ws ss fs ks → frames_of zs us qs rs js ≡ frames_of xs ws ss fs ks ++ frames_of (x ∷ []) vs ts gs ls
 longer_frames {xs = xs} {x = x} {ws = ws} {vs = vs} {ss = ss} {ts = ts} {fs = fs} {gs = gs} {ks = ks} {ls = ls} l h =
-    (λ i. frames_of (l.slots i) (l.walks i) (l.starts i) (l.fronts i) (l.firsts i)) ∙ frames-append xs (x ∷ []) ws vs ss ts fs gs ks ls h
+    (λ i. frames_of (l.slots i) (l.walks i) (l.starts i) (l.fronts i) (l.firsts i))
+    ∙ frames-append xs (x ∷ []) ws vs ss ts fs gs ks ls h
 
-pub longer_length : {xs zs : List Slot} {x : Slot} {ws us vs : List Walk} {ss qs ts : List Start} {fs rs gs : List Front} {ks js ls : List First} → Longer xs zs x ws us vs ss qs ts fs rs gs ks js ls
+pub longer_length : {xs zs : List Slot} {x : Slot} {ws us vs : List Walk} {ss qs ts : List Start}
+    {fs rs gs : List Front} {ks js ls : List First} → Longer xs zs x ws us vs ss qs ts fs rs gs ks js ls
     → Fits xs ws ss fs ks → length (frames_of zs us qs rs js) ≡ length (frames_of xs ws ss fs ks) + 1
 longer_length {xs = xs} {ws = ws} {ss = ss} {fs = fs} {ks = ks} l h =
     let e = ap (λ (r : List Frame). length r) (longer_frames l h ∙ ap (λ r. frames_of xs ws ss fs ks ++ r) l.one.is) in
     e ∙ length-append (frames_of xs ws ss fs ks) (l.one.frame ∷ [])
 
-pub longer_ends : {xs zs : List Slot} {x : Slot} {ws us vs : List Walk} {ss qs ts : List Start} {fs rs gs : List Front} {ks js ls : List First} → Longer xs zs x ws us vs ss qs ts fs rs gs ks js ls
+pub longer_ends : {xs zs : List Slot} {x : Slot} {ws us vs : List Walk} {ss qs ts : List Start} {fs rs gs : List Front}
+    {ks js ls : List First} → Longer xs zs x ws us vs ss qs ts fs rs gs ks js ls
     → Fits xs ws ss fs ks → EndsWith x (frames_of zs us qs rs js)
-longer_ends {xs = xs} {ws = ws} {ss = ss} {fs = fs} {ks = ks} l h =
-    (frames_of xs ws ss fs ks, l.one.frame, longer_frames l h ∙ ap (λ r. frames_of xs ws ss fs ks ++ r) l.one.is, l.one.slot)
+longer_ends {xs = xs} {ws = ws} {ss = ss} {fs = fs} {ks = ks} l h = (
+  frames_of xs ws ss fs ks,
+  l.one.frame,
+  longer_frames l h ∙ ap (λ r. frames_of xs ws ss fs ks ++ r) l.one.is,
+  l.one.slot,
+)
 
 -- ---- the innermost frame
 
@@ -224,7 +386,8 @@ pub last_of : {A : Type 0} (cs : List A) (o : Option A) → o ≡ slice_get cs (
 last_of {A = A} [] o e = let is : o ≡ None = e in subst (λ (r : Option A). IsLastOf [] r) (sym is) refl
 last_of {A = A} (c ∷ cs) o e =
     let r = split_last (c ∷ cs) (omega arith) in
-    let at : length (c ∷ cs) - 1 ≡ length r.0 = omega (arith, ap (λ (l : List A). length l) r.2, length-append r.0 (r.1 ∷ [])) in
+    let at : length (c ∷ cs) - 1 ≡ length r.0 =
+    omega (arith, ap (λ (l : List A). length l) r.2, length-append r.0 (r.1 ∷ [])) in
     let is : o ≡ Some r.1 = e ∙ (λ i. slice_get (r.2 i) (at i)) ∙ get_end r.0 r.1 in
     subst (λ (s : Option A). IsLastOf (c ∷ cs) s) (sym is) (r.0, r.2)
   where
@@ -237,66 +400,120 @@ some_left p xs x n e h = omega (arith, h, count-append p xs (x ∷ []), ap (λ (
 
 -- ---- adding a frame and taking it off
 
-pub alone_more : (xs ys zs : List Slot) (x : Slot) (ws : List Walk) (ss : List Start) (fs : List Front) (ks : List First) → is_alone x ≡ true → zs ≡ ys ++ x ∷ [] → ys ≡ xs
+pub alone_more : (xs ys zs : List Slot) (x : Slot) (ws : List Walk) (ss : List Start) (fs : List Front)
+    (ks : List First) → is_alone x ≡ true → zs ≡ ys ++ x ∷ [] → ys ≡ xs
     → Longer xs zs x ws ws [] ss ss [] fs fs [] ks ks []
 alone_more xs ys zs x ws ss fs ks e z y =
-    record { slots = z ∙ ap (λ l. l ++ x ∷ []) y; walks = sym (append-nil ws); starts = sym (append-nil ss); fronts = sym (append-nil fs); firsts = sym (append-nil ks); one = one_alone x e }
+    record {
+      slots = z ∙ ap (λ l. l ++ x ∷ []) y;
+      walks = sym (append-nil ws);
+      starts = sym (append-nil ss);
+      fronts = sym (append-nil fs);
+      firsts = sym (append-nil ks);
+      one = one_alone x e;
+    }
 
-pub walk_more : (xs ys zs : List Slot) (x : Slot) (ws vs us : List Walk) (w : Walk) (ss : List Start) (fs : List Front) (ks : List First) → has_walk x ≡ true → zs ≡ ys ++ x ∷ [] → ys ≡ xs → us ≡ vs ++ w ∷ [] → vs ≡ ws
+pub walk_more : (xs ys zs : List Slot) (x : Slot) (ws vs us : List Walk) (w : Walk) (ss : List Start) (fs : List Front)
+    (ks : List First) → has_walk x ≡ true → zs ≡ ys ++ x ∷ [] → ys ≡ xs → us ≡ vs ++ w ∷ [] → vs ≡ ws
     → Longer xs zs x ws us (w ∷ []) ss ss [] fs fs [] ks ks []
 walk_more xs ys zs x ws vs us w ss fs ks e z y u v =
-    record { slots = z ∙ ap (λ l. l ++ x ∷ []) y; walks = u ∙ ap (λ l. l ++ w ∷ []) v; starts = sym (append-nil ss); fronts = sym (append-nil fs); firsts = sym (append-nil ks); one = one_walk x w e }
+    record {
+      slots = z ∙ ap (λ l. l ++ x ∷ []) y;
+      walks = u ∙ ap (λ l. l ++ w ∷ []) v;
+      starts = sym (append-nil ss);
+      fronts = sym (append-nil fs);
+      firsts = sym (append-nil ks);
+      one = one_walk x w e;
+    }
 
-pub start_more : (xs ys zs : List Slot) (x : Slot) (ws : List Walk) (ss vs us : List Start) (p : Start) (fs : List Front) (ks : List First) → has_start x ≡ true → zs ≡ ys ++ x ∷ [] → ys ≡ xs → us ≡ vs ++ p ∷ [] → vs ≡ ss
+pub start_more : (xs ys zs : List Slot) (x : Slot) (ws : List Walk) (ss vs us : List Start) (p : Start)
+    (fs : List Front) (ks : List First) → has_start x ≡ true → zs ≡ ys ++ x ∷ [] → ys ≡ xs → us ≡ vs ++ p ∷ [] → vs ≡ ss
     → Longer xs zs x ws ws [] ss us (p ∷ []) fs fs [] ks ks []
 start_more xs ys zs x ws ss vs us p fs ks e z y u v =
-    record { slots = z ∙ ap (λ l. l ++ x ∷ []) y; walks = sym (append-nil ws); starts = u ∙ ap (λ l. l ++ p ∷ []) v; fronts = sym (append-nil fs); firsts = sym (append-nil ks); one = one_start x p e }
+    record {
+      slots = z ∙ ap (λ l. l ++ x ∷ []) y;
+      walks = sym (append-nil ws);
+      starts = u ∙ ap (λ l. l ++ p ∷ []) v;
+      fronts = sym (append-nil fs);
+      firsts = sym (append-nil ks);
+      one = one_start x p e;
+    }
 
-pub front_more : (xs ys zs : List Slot) (x : Slot) (ws : List Walk) (ss : List Start) (fs vs us : List Front) (f : Front) (ks : List First) → has_front x ≡ true → zs ≡ ys ++ x ∷ [] → ys ≡ xs → us ≡ vs ++ f ∷ [] → vs ≡ fs
+pub front_more : (xs ys zs : List Slot) (x : Slot) (ws : List Walk) (ss : List Start) (fs vs us : List Front)
+    (f : Front) (ks : List First) → has_front x ≡ true → zs ≡ ys ++ x ∷ [] → ys ≡ xs → us ≡ vs ++ f ∷ [] → vs ≡ fs
     → Longer xs zs x ws ws [] ss ss [] fs us (f ∷ []) ks ks []
 front_more xs ys zs x ws ss fs vs us f ks e z y u v =
-    record { slots = z ∙ ap (λ l. l ++ x ∷ []) y; walks = sym (append-nil ws); starts = sym (append-nil ss); fronts = u ∙ ap (λ l. l ++ f ∷ []) v; firsts = sym (append-nil ks); one = one_front x f e }
+    record {
+      slots = z ∙ ap (λ l. l ++ x ∷ []) y;
+      walks = sym (append-nil ws);
+      starts = sym (append-nil ss);
+      fronts = u ∙ ap (λ l. l ++ f ∷ []) v;
+      firsts = sym (append-nil ks);
+      one = one_front x f e;
+    }
 
-pub first_more : (xs ys zs : List Slot) (x : Slot) (ws : List Walk) (ss : List Start) (fs : List Front) (ks vs us : List First) (a : First) → has_first x ≡ true → zs ≡ ys ++ x ∷ [] → ys ≡ xs → us ≡ vs ++ a ∷ [] → vs ≡ ks
+pub first_more : (xs ys zs : List Slot) (x : Slot) (ws : List Walk) (ss : List Start) (fs : List Front)
+    (ks vs us : List First) (a : First) → has_first x ≡ true → zs ≡ ys ++ x ∷ [] → ys ≡ xs → us ≡ vs ++ a ∷ [] → vs ≡ ks
     → Longer xs zs x ws ws [] ss ss [] fs fs [] ks us (a ∷ [])
 first_more xs ys zs x ws ss fs ks vs us a e z y u v =
-    record { slots = z ∙ ap (λ l. l ++ x ∷ []) y; walks = sym (append-nil ws); starts = sym (append-nil ss); fronts = sym (append-nil fs); firsts = u ∙ ap (λ l. l ++ a ∷ []) v; one = one_first x a e }
+    record {
+      slots = z ∙ ap (λ l. l ++ x ∷ []) y;
+      walks = sym (append-nil ws);
+      starts = sym (append-nil ss);
+      fronts = sym (append-nil fs);
+      firsts = u ∙ ap (λ l. l ++ a ∷ []) v;
+      one = one_first x a e;
+    }
 
 -- the frames after a slot was added
-pub added : {xs zs : List Slot} {x : Slot} {ws us vs : List Walk} {ss qs ts : List Start} {fs rs gs : List Front} {ks js ls : List First} → Longer xs zs x ws us vs ss qs ts fs rs gs ks js ls
-    → Fits xs ws ss fs ks → (all : List Frame) → frames_of xs ws ss fs ks ≡ all → frames_of zs us qs rs js ≡ all ++ frames_of (x ∷ []) vs ts gs ls
-added {x = x} {vs = vs} {ts = ts} {gs = gs} {ls = ls} l h all e = longer_frames l h ∙ ap (λ r. r ++ frames_of (x ∷ []) vs ts gs ls) e
+pub added : {xs zs : List Slot} {x : Slot} {ws us vs : List Walk} {ss qs ts : List Start} {fs rs gs : List Front}
+    {ks js ls : List First} → Longer xs zs x ws us vs ss qs ts fs rs gs ks js ls
+    → Fits xs ws ss fs ks → (all : List Frame)
+    → frames_of xs ws ss fs ks ≡ all → frames_of zs us qs rs js ≡ all ++ frames_of (x ∷ []) vs ts gs ls
+added {x = x} {vs = vs} {ts = ts} {gs = gs} {ls = ls} l h all e = longer_frames l h
+    ∙ ap (λ r. r ++ frames_of (x ∷ []) vs ts gs ls) e
 
-pub added_length : {xs zs : List Slot} {x : Slot} {ws us vs : List Walk} {ss qs ts : List Start} {fs rs gs : List Front} {ks js ls : List First} → Longer xs zs x ws us vs ss qs ts fs rs gs ks js ls
-    → Fits xs ws ss fs ks → (all : List Frame) → frames_of xs ws ss fs ks ≡ all → length (frames_of zs us qs rs js) ≡ length all + 1
+pub added_length : {xs zs : List Slot} {x : Slot} {ws us vs : List Walk} {ss qs ts : List Start} {fs rs gs : List Front}
+    {ks js ls : List First} → Longer xs zs x ws us vs ss qs ts fs rs gs ks js ls
+    → Fits xs ws ss fs ks → (all : List Frame)
+    → frames_of xs ws ss fs ks ≡ all → length (frames_of zs us qs rs js) ≡ length all + 1
 added_length l h all e = longer_length l h ∙ ap (λ (r : List Frame). length r + 1) e
 
 -- the innermost slot is of the sort of the innermost frame
-pub sort_ends : (p : Slot → Bool) (xs zs : List Slot) (x : Slot) (ws : List Walk) (ss : List Start) (fs : List Front) (ks : List First) (all : List Frame) → zs ≡ xs ++ x ∷ [] → Fits zs ws ss fs ks
+pub sort_ends : (p : Slot → Bool) (xs zs : List Slot) (x : Slot) (ws : List Walk) (ss : List Start) (fs : List Front)
+    (ks : List First) (all : List Frame) → zs ≡ xs ++ x ∷ [] → Fits zs ws ss fs ks
     → frames_of zs ws ss fs ks ≡ all → EndsIn p all → p x ≡ true
 sort_ends p xs zs x ws ss fs ks all z h e k =
-    let ends = subst (λ gs. EndsWith x gs) ((λ i. frames_of (sym z i) ws ss fs ks) ∙ e) (slot_ends xs x ws ss fs ks (subst (λ ys. Fits ys ws ss fs ks) z h)) in
+    let ends = subst (λ gs. EndsWith x gs)
+    ((λ i. frames_of (sym z i) ws ss fs ks) ∙ e) (slot_ends xs x ws ss fs ks (subst (λ ys. Fits ys ws ss fs ks) z h)) in
     ap p (same_slot all x k.0 ends k.1) ∙ k.2
 
-pub sort_left : (p : Slot → Bool) (xs zs : List Slot) (x : Slot) (n : ℕ) → p x ≡ true → zs ≡ xs ++ x ∷ [] → n ≡ count p zs → 0 < n
+pub sort_left : (p : Slot → Bool) (xs zs : List Slot) (x : Slot) (n : ℕ)
+    → p x ≡ true → zs ≡ xs ++ x ∷ [] → n ≡ count p zs → 0 < n
 sort_left p xs zs x n e z h = some_left p xs x n e (h ∙ ap (count p) z)
 
 -- the frames before the innermost one was taken off
-pub removed : {xs zs : List Slot} {x : Slot} {ws us vs : List Walk} {ss qs ts : List Start} {fs rs gs : List Front} {ks js ls : List First} → Longer xs zs x ws us vs ss qs ts fs rs gs ks js ls
-    → Fits zs us qs rs js → (all : List Frame) → frames_of zs us qs rs js ≡ all → (y : Slot) → EndsWith y all → all ≡ frames_of xs ws ss fs ks ++ frames_of (y ∷ []) vs ts gs ls
-removed {xs = xs} {x = x} {ws = ws} {vs = vs} {ss = ss} {ts = ts} {fs = fs} {gs = gs} {ks = ks} {ls = ls} l h all e y k =
+pub removed : {xs zs : List Slot} {x : Slot} {ws us vs : List Walk} {ss qs ts : List Start} {fs rs gs : List Front}
+    {ks js ls : List First} → Longer xs zs x ws us vs ss qs ts fs rs gs ks js ls
+    → Fits zs us qs rs js → (all : List Frame) → frames_of zs us qs rs js ≡ all → (y : Slot) → EndsWith y all
+    → all ≡ frames_of xs ws ss fs ks ++ frames_of (y ∷ []) vs ts gs ls
+removed {xs = xs} {x = x} {ws = ws} {vs = vs} {ss = ss} {ts = ts} {fs = fs} {gs = gs} {ks = ks} {ls = ls} l h
+    all e y k =
     let f = shorter_fits l h in
     let is = same_slot all x y (subst (λ r. EndsWith x r) e (longer_ends l f)) k in
     sym e ∙ longer_frames l f ∙ (λ i. frames_of xs ws ss fs ks ++ frames_of (is i ∷ []) vs ts gs ls)
 
-pub removed_length : {xs zs : List Slot} {x : Slot} {ws us vs : List Walk} {ss qs ts : List Start} {fs rs gs : List Front} {ks js ls : List First} → Longer xs zs x ws us vs ss qs ts fs rs gs ks js ls
-    → Fits zs us qs rs js → (all : List Frame) → frames_of zs us qs rs js ≡ all → length (frames_of xs ws ss fs ks) + 1 ≡ length all
+pub removed_length : {xs zs : List Slot} {x : Slot} {ws us vs : List Walk} {ss qs ts : List Start}
+    {fs rs gs : List Front} {ks js ls : List First} → Longer xs zs x ws us vs ss qs ts fs rs gs ks js ls
+    → Fits zs us qs rs js → (all : List Frame)
+    → frames_of zs us qs rs js ≡ all → length (frames_of xs ws ss fs ks) + 1 ≡ length all
 removed_length l h all e = sym (longer_length l (shorter_fits l h)) ∙ ap (λ (r : List Frame). length r) e
 
 -- ---- a walk that moves on in the innermost frame
 
 -- The innermost frame has this slot, which has a walk.
-pub record LastWalk (zs : List Slot) (us : List Walk) (ss : List Start) (fs : List Front) (ks : List First) (x : Slot) : Type 0 where
+pub record LastWalk (zs : List Slot) (us : List Walk) (ss : List Start) (fs : List Front) (ks : List First)
+    (x : Slot) : Type 0 where
   pub front : List Slot
   pub outer : List Walk
   pub walk : Walk
@@ -304,15 +521,19 @@ pub record LastWalk (zs : List Slot) (us : List Walk) (ss : List Start) (fs : Li
   pub walks : us ≡ outer ++ walk ∷ []
   pub fits : Fits front outer ss fs ks
 
-some_slot : (zs : List Slot) (us : List Walk) (ss : List Start) (fs : List Front) (ks : List First) (x : Slot) → EndsWith x (frames_of zs us ss fs ks) → 0 < length zs
-some_slot [] us ss fs ks x h = absurd (omega (arith, ap (λ (l : List Frame). length l) h.2, length-append h.0 (h.1 ∷ [])))
+some_slot : (zs : List Slot) (us : List Walk) (ss : List Start) (fs : List Front) (ks : List First) (x : Slot)
+    → EndsWith x (frames_of zs us ss fs ks) → 0 < length zs
+some_slot [] us ss fs ks x h =
+    absurd (omega (arith, ap (λ (l : List Frame). length l) h.2, length-append h.0 (h.1 ∷ [])))
 some_slot (z ∷ zs) us ss fs ks x h = omega arith
 
-pub last_walk : (zs : List Slot) (us : List Walk) (ss : List Start) (fs : List Front) (ks : List First) (all : List Frame) (x : Slot) → has_walk x ≡ true → Fits zs us ss fs ks → frames_of zs us ss fs ks ≡ all
+pub last_walk : (zs : List Slot) (us : List Walk) (ss : List Start) (fs : List Front) (ks : List First)
+    (all : List Frame) (x : Slot) → has_walk x ≡ true → Fits zs us ss fs ks → frames_of zs us ss fs ks ≡ all
     → EndsWith x all → LastWalk zs us ss fs ks x
 last_walk zs us ss fs ks all x w h e k =
     let r = split_last zs (some_slot zs us ss fs ks x (subst (λ l. EndsWith x l) (sym e) k)) in
-    let ends = subst (λ l. EndsWith r.1 l) ((λ i. frames_of (sym r.2 i) us ss fs ks) ∙ e) (slot_ends r.0 r.1 us ss fs ks (subst (λ l. Fits l us ss fs ks) r.2 h)) in
+    let ends = subst (λ l. EndsWith r.1 l) ((λ i. frames_of (sym r.2 i) us ss fs ks) ∙ e)
+    (slot_ends r.0 r.1 us ss fs ks (subst (λ l. Fits l us ss fs ks) r.2 h)) in
     let slots : zs ≡ r.0 ++ x ∷ [] = r.2 ∙ ap (λ y. r.0 ++ y ∷ []) (same_slot all r.1 x ends k) in
     let s = split_last us (sort_left has_walk r.0 zs x (length us) w slots h.walks) in
     record {
@@ -324,43 +545,56 @@ last_walk zs us ss fs ks all x w h e k =
       fits = shorter_fits (walk_more r.0 r.0 zs x s.0 s.0 us s.1 ss fs ks w slots refl s.2 refl) h;
     }
 
-pub set_last : {A : Type 0} (xs zs : List A) (x y : A) (i : ℕ) → zs ≡ xs ++ x ∷ [] → i + 1 ≡ length zs → slice_set zs i y ≡ xs ++ y ∷ []
+pub set_last : {A : Type 0} (xs zs : List A) (x y : A) (i : ℕ) → zs ≡ xs ++ x ∷ [] → i + 1 ≡ length zs
+    → slice_set zs i y ≡ xs ++ y ∷ []
 set_last {A = A} xs zs x y i e l =
     let at : i ≡ length xs = omega (arith, l, ap (λ (r : List A). length r) e, length-append xs (x ∷ [])) in
     (λ j. slice_set (e j) (at j) y) ∙ set-append_seam xs x [] y
 
-pub get_last : {A : Type 0} (xs zs : List A) (x d : A) (i : ℕ) → zs ≡ xs ++ x ∷ [] → i + 1 ≡ length zs → get_or zs i d ≡ x
+pub get_last : {A : Type 0} (xs zs : List A) (x d : A) (i : ℕ) → zs ≡ xs ++ x ∷ [] → i + 1 ≡ length zs
+    → get_or zs i d ≡ x
 get_last {A = A} xs zs x d i e l =
     let at : i ≡ length xs = omega (arith, l, ap (λ (r : List A). length r) e, length-append xs (x ∷ [])) in
     (λ j. get_or (e j) (at j) d) ∙ get_or-append_seam xs x [] d
 
 -- the walk is written, and the slot if y is another one
-pub walk_written : {zs : List Slot} {us : List Walk} {ss : List Start} {fs : List Front} {ks : List First} {x : Slot} (r : LastWalk zs us ss fs ks x) (ys : List Slot) (y : Slot) (v : Walk) (j : ℕ)
+pub walk_written : {zs : List Slot} {us : List Walk} {ss : List Start} {fs : List Front} {ks : List First} {x : Slot}
+    (r : LastWalk zs us ss fs ks x) (ys : List Slot) (y : Slot) (v : Walk) (j : ℕ)
     → has_walk y ≡ true → ys ≡ r.front ++ y ∷ [] → j + 1 ≡ length us
     → Longer r.front ys y r.outer (slice_set us j v) (v ∷ []) ss ss [] fs fs [] ks ks []
 walk_written {us = us} {ss = ss} {fs = fs} {ks = ks} r ys y v j w e f =
-    walk_more r.front r.front ys y r.outer r.outer (slice_set us j v) v ss fs ks w e refl (set_last r.outer us r.walk v j r.walks f) refl
+    walk_more r.front r.front ys y r.outer r.outer (slice_set us j v) v ss fs ks w e refl
+    (set_last r.outer us r.walk v j r.walks f) refl
 
 -- the frames as they are
-pub walk_there : {zs : List Slot} {us : List Walk} {ss : List Start} {fs : List Front} {ks : List First} {x : Slot} (r : LastWalk zs us ss fs ks x) → has_walk x ≡ true
+pub walk_there : {zs : List Slot} {us : List Walk} {ss : List Start} {fs : List Front} {ks : List First} {x : Slot}
+    (r : LastWalk zs us ss fs ks x) → has_walk x ≡ true
     → Longer r.front zs x r.outer us (r.walk ∷ []) ss ss [] fs fs [] ks ks []
-walk_there {zs = zs} {us = us} {ss = ss} {fs = fs} {ks = ks} {x = x} r w = walk_more r.front r.front zs x r.outer r.outer us r.walk ss fs ks w r.slots refl r.walks refl
+walk_there {zs = zs} {us = us} {ss = ss} {fs = fs} {ks = ks} {x = x} r w =
+    walk_more r.front r.front zs x r.outer r.outer us r.walk ss fs ks w r.slots refl r.walks refl
 
-pub walk_length : {zs : List Slot} {us : List Walk} {ss : List Start} {fs : List Front} {ks : List First} {x : Slot} (r : LastWalk zs us ss fs ks x)
+pub walk_length : {zs : List Slot} {us : List Walk} {ss : List Start} {fs : List Front} {ks : List First} {x : Slot}
+    (r : LastWalk zs us ss fs ks x)
     → (length zs ≡ length r.front + 1) × (length us ≡ length r.outer + 1)
-walk_length {x = x} r = (ap (λ (l : List Slot). length l) r.slots ∙ length-append r.front (x ∷ []), ap (λ (l : List Walk). length l) r.walks ∙ length-append r.outer (r.walk ∷ []))
+walk_length {x = x} r = (
+  ap (λ (l : List Slot). length l) r.slots ∙ length-append r.front (x ∷ []),
+  ap (λ (l : List Walk). length l) r.walks ∙ length-append r.outer (r.walk ∷ []),
+)
 
 -- ---- the same if the frame has strategies for children
 
-pub last_each : (zs : List Slot) (us : List Walk) (ss : List Start) (fs : List Front) (ks : List First) (all : List Frame) (acts : Acts) (n : ℕ) → Fits zs us ss fs ks → frames_of zs us ss fs ks ≡ all
+pub last_each : (zs : List Slot) (us : List Walk) (ss : List Start) (fs : List Front) (ks : List First)
+    (all : List Frame) (acts : Acts) (n : ℕ) → Fits zs us ss fs ks → frames_of zs us ss fs ks ≡ all
     → EndsWith (Each acts n) all → LastWalk zs us ss fs ks (Each acts n)
 last_each zs us ss fs ks all acts n h e k = last_walk zs us ss fs ks all (Each acts n) refl h e k
 
-pub each_there : {zs : List Slot} {us : List Walk} {ss : List Start} {fs : List Front} {ks : List First} {acts : Acts} {n : ℕ} (r : LastWalk zs us ss fs ks (Each acts n))
+pub each_there : {zs : List Slot} {us : List Walk} {ss : List Start} {fs : List Front} {ks : List First} {acts : Acts}
+    {n : ℕ} (r : LastWalk zs us ss fs ks (Each acts n))
     → Longer r.front zs (Each acts n) r.outer us (r.walk ∷ []) ss ss [] fs fs [] ks ks []
 each_there r = walk_there r refl
 
-pub each_length : {zs : List Slot} {us : List Walk} {ss : List Start} {fs : List Front} {ks : List First} {acts : Acts} {n : ℕ} (r : LastWalk zs us ss fs ks (Each acts n))
+pub each_length : {zs : List Slot} {us : List Walk} {ss : List Start} {fs : List Front} {ks : List First} {acts : Acts}
+    {n : ℕ} (r : LastWalk zs us ss fs ks (Each acts n))
     → (length zs ≡ length r.front + 1) × (length us ≡ length r.outer + 1)
 each_length r = walk_length r
 
@@ -379,5 +613,6 @@ cut_is (frames.Cut m j) n k e = cc
 cut_is f n k e = absurd (cc)
 
 -- the frames, the innermost first
-pub ends_reversed : (gs : List Frame) (x : Slot) (f : Frame) (h : EndsWith x gs) → h.1 ≡ f → reverse gs ≡ f ∷ reverse h.0
+pub ends_reversed : (gs : List Frame) (x : Slot) (f : Frame) (h : EndsWith x gs)
+    → h.1 ≡ f → reverse gs ≡ f ∷ reverse h.0
 ends_reversed gs x f h e = pushed h.0 gs f (h.2 ∙ ap (λ g. h.0 ++ g ∷ []) e)

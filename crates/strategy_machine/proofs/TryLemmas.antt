@@ -19,12 +19,14 @@ use Rattle.strategy_machine.proofs.LengthLemmas.{run_has, cut_none}
 use Rattle.strategy_machine.proofs.TakeLemmas.{run_step, some_is, take_stops, paid}
 
 -- the only strategy of a list
-pub alone : (ss : List ResolvedStrategy) (s : ResolvedStrategy) → length ss ≡ 1 → s ≡ get_or ss 0 s → resolveds_of ss ≡ and_strategy s no_strategies
+pub alone : (ss : List ResolvedStrategy) (s : ResolvedStrategy) → length ss ≡ 1 → s ≡ get_or ss 0 s
+    → resolveds_of ss ≡ and_strategy s no_strategies
 alone [] s n e = absurd (omega (arith, n))
 alone (r ∷ []) s n e = ap (λ (x : ResolvedStrategy). and_strategy x no_strategies) (sym e)
 alone (r ∷ q ∷ ss) s n e = absurd (omega (arith, n))
 
-pub only_one : (ss : List ResolvedStrategy) (s t : ResolvedStrategy) → length ss ≡ 1 → s ≡ get_or ss 0 s → t ≡ get_or ss 0 t → s ≡ t
+pub only_one : (ss : List ResolvedStrategy) (s t : ResolvedStrategy) → length ss ≡ 1 → s ≡ get_or ss 0 s
+    → t ≡ get_or ss 0 t → s ≡ t
 only_one [] s t n e f = absurd (omega (arith, n))
 only_one (r ∷ ss) s t n e f = e ∙ sym f
 
@@ -41,22 +43,26 @@ module _ (W : World) (E : Scope) (l : ℕ) (B : Bindings) (u : Tree) where
   abbrev body : ResolvedStrategy
   body = guard (param 0) id id
 
-  enters : (d : Resolved) (ss : ResolvedStrategies) (s : ResolvedStrategy) (b : ℕ) → d.variables ≡ 0 → d.strategy ≡ body → ss ≡ and_strategy s no_strategies
+  enters : (d : Resolved) (ss : ResolvedStrategies) (s : ResolvedStrategy) (b : ℕ)
+      → d.variables ≡ 0 → d.strategy ≡ body → ss ≡ and_strategy s no_strategies
       → argument E s ≡ record { strategy = s; written_in = E }
       → enter (run W) ss E [] d l b B u ≡ run W (body_scope s) l body b B u
   enters d ss s b v e f a =
       (λ i. after (v i) (e i) (f i))
-      ∙ (λ i. cut (length B) (run W (inside [] (and_closure (a i).strategy (a i).written_in no_closures)) l body b (append-nil B i) u))
+      ∙ (λ i. cut (length B)
+      (run W (inside [] (and_closure (a i).strategy (a i).written_in no_closures)) l body b (append-nil B i) u))
       ∙ cut_none (length B) (run W (body_scope s) l body b B u) (run_has W (body_scope s) l body b B u)
     where
       none : List Tree
       none = []
 
       after : ℕ → ResolvedStrategy → ResolvedStrategies → Answer
-      after n r rs = cut (length B) (run W (inside (numbers_from (length B) (length none + n)) (arguments E rs)) l r b (B ++ (map Some none ++ replicate n None)) u)
+      after n r rs = cut (length B) (run W (inside (numbers_from (length B) (length none + n)) (arguments E rs)) l r b
+          (B ++ (map Some none ++ replicate n None)) u)
 
   tries : (f : ℕ) (ss : List ResolvedStrategy) (ps : List ResolvedPattern) (t : Try) (b : ℕ) → IsTry W.bodies f ss ps t
-      → form W (run W) E l (call f (resolveds_of ss) (resolved_patterns_of ps)) b B u ≡ run W (body_scope t.first.now) l body b B u
+      → form W (run W) E l (call f (resolveds_of ss) (resolved_patterns_of ps)) b B u
+      ≡ run W (body_scope t.first.now) l body b B u
   tries f ss ps t b k =
       ap (λ (qs : ResolvedPatterns). built_all W.room qs (cells_in E) B l b go) k.patterns
       ∙ some_is _ k.body b (λ d. enter (run W) (resolveds_of ss) E [] d l b B u) k.defined
@@ -78,16 +84,21 @@ module _ (W : World) (E : Scope) (l : ℕ) (B : Bindings) (u : Tree) where
       (λ t1 B1 x d. with_edits d (id_same W (body_scope s) E l x B1 t1 i)) (λ x. id_same W (body_scope s) E l x B u i))
       ∙ (λ i. form W (run W) E l (guard s (sym i2 i) (sym i3 i)) c B u)
 
-pub try_few : (W : World) (sub : Standing) (whole : Answer) (S : State) (f : ℕ) (ss : List ResolvedStrategy) (ps : List ResolvedPattern) (t : Try) (n : ℕ) (p : Standing)
-    → IsTry W.bodies f ss ps t → S.steps ≤ 1 → FormIn W sub whole S (call f (resolveds_of ss) (resolved_patterns_of ps)) n p → whole ≡ stopped spent
+pub try_few : (W : World) (sub : Standing) (whole : Answer) (S : State) (f : ℕ) (ss : List ResolvedStrategy)
+    (ps : List ResolvedPattern) (t : Try) (n : ℕ) (p : Standing)
+    → IsTry W.bodies f ss ps t → S.steps ≤ 1 → FormIn W sub whole S (call f (resolveds_of ss) (resolved_patterns_of ps))
+    n p → whole ≡ stopped spent
 try_few W sub whole S f ss ps t n p k e h =
     let E = scope_at S.scopes n in
     take_stops W sub whole S (call f (resolveds_of ss) (resolved_patterns_of ps)) n p spent
-    (tries W E S.level S.cells.bindings (standing_tree p) f ss ps t S.steps k ∙ few W E S.level S.cells.bindings (standing_tree p) t.first.now S.steps e) h
+    (tries W E S.level S.cells.bindings (standing_tree p) f ss ps t S.steps k
+    ∙ few W E S.level S.cells.bindings (standing_tree p) t.first.now S.steps e) h
 
 -- the choice starts
-pub try_begins : (W : World) (sub : Standing) (whole : Answer) (S : State) (f : ℕ) (ss : List ResolvedStrategy) (ps : List ResolvedPattern) (t : Try) (n : ℕ) (p : Standing) (c : ℕ)
-    → IsTry W.bodies f ss ps t → S.steps ≡ c + 2 → FormIn W sub whole S (call f (resolveds_of ss) (resolved_patterns_of ps)) n p
+pub try_begins : (W : World) (sub : Standing) (whole : Answer) (S : State) (f : ℕ) (ss : List ResolvedStrategy)
+    (ps : List ResolvedPattern) (t : Try) (n : ℕ) (p : Standing) (c : ℕ)
+    → IsTry W.bodies f ss ps t
+    → S.steps ≡ c + 2 → FormIn W sub whole S (call f (resolveds_of ss) (resolved_patterns_of ps)) n p
     → FormIn W sub whole (paid S c) (guard t.first.now t.second.now t.other.now) n p
 try_begins W sub whole S f ss ps t n p c k e h =
     let E = scope_at S.scopes n in
@@ -96,5 +107,6 @@ try_begins W sub whole S f ss ps t n p c k e h =
       shows = h.shows;
       there = h.there;
       opens = opens_along _ _ (tries W E S.level S.cells.bindings (standing_tree p) f ss ps t S.steps k
-          ∙ chooses W E S.level S.cells.bindings (standing_tree p) t.first.now t.second.now t.other.now S.steps c e k.second k.other) h.opens;
+          ∙ chooses W E S.level S.cells.bindings (standing_tree p) t.first.now t.second.now t.other.now S.steps c e
+          k.second k.other) h.opens;
     }

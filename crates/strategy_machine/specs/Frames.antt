@@ -81,9 +81,11 @@ abbrev pub after_those : World → Scope → ResolvedStrategy → Walk → CellC
 after_those W E s w C m any a =
     either (put_back w.index (standing_tree (walked w)) a)
     (λ t B b e. with_edits e (those_done (run W E (w.level + 1) s) (left_behind w) true (w.index + 1) b B t))
-    (λ b. those_done (run W E (w.level + 1) s) (left_behind w) any (w.index + 1) b (kept C m) (standing_tree (walked w)))
+    (λ b.
+    those_done (run W E (w.level + 1) s) (left_behind w) any (w.index + 1) b (kept C m) (standing_tree (walked w)))
 
-abbrev pub after_choice : World → Scope → ℕ → ResolvedStrategy → ResolvedStrategy → Standing → CellContents → Mark → Answer → Answer
+abbrev pub after_choice : World
+    → Scope → ℕ → ResolvedStrategy → ResolvedStrategy → Standing → CellContents → Mark → Answer → Answer
 after_choice W E l s2 s3 p C m a =
     either a (λ t B b e. with_edits e (run W E l s2 b B t)) (λ b. run W E l s3 b (kept C m) (standing_tree p))
 
@@ -140,7 +142,8 @@ Meets W sub whole C top es l (Tail s n k ∷ fs) start base a =
     (n < length es)
     × Meets W sub whole C top es l fs start base (and_then a (on_rest (run W (scope_at es n) l s.now) k))
 Meets W sub whole C top es l (Rest node ps n k ∷ fs) start base a =
-    PartsStand node (all_parts node ps.items) × (start ≡ fresh (rest_of n (standing_tree (node_with node ps.items)))) × (k ≡ length base)
+    PartsStand node (all_parts node ps.items) × (start ≡ fresh (rest_of n (standing_tree (node_with node ps.items))))
+    × (k ≡ length base)
     × Opens (Meets W sub whole C top es l fs) (path_of fs) (node_with node ps.items) base
     (after_rest n (standing_tree (node_with node ps.items)) a)
 Meets W sub whole C top es l (Head s n w ∷ fs) start base a =
@@ -149,7 +152,8 @@ Meets W sub whole C top es l (Head s n w ∷ fs) start base a =
     (after_head W (scope_at es n) s.now w a)
 Meets W sub whole C top es l (After node first k ∷ fs) start base a =
     (elements (standing_tree node) ≡ Some (children (standing_tree node)))
-    × PartsStand node (all_parts node (first_part first)) × (start ≡ fresh (rest_of 1 (standing_tree (node_with node (first_part first))))) × (k ≡ length base)
+    × PartsStand node (all_parts node (first_part first))
+    × (start ≡ fresh (rest_of 1 (standing_tree (node_with node (first_part first))))) × (k ≡ length base)
     × Opens (Meets W sub whole C top es l fs) (path_of fs) (node_with node (first_part first)) base
     (after_rest 1 (standing_tree (node_with node (first_part first))) a)
 Meets W sub whole C top es l (Leave n ∷ fs) start base a =

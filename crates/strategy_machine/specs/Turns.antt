@@ -62,9 +62,11 @@ abbrev pub IsInHand : State → Standing → Hand → Type 0
 IsInHand S p (Begin s n q) = (n < length S.scopes) × (p ≡ q)
 IsInHand S p (Done q) = p ≡ q
 IsInHand S p Failed = Unit {0}
-IsInHand S p (Each acts n q i parts) = (n < length S.scopes) × Has q × PartsStand q (all_parts q parts.items) × (p ≡ node_with q parts.items)
+IsInHand S p (Each acts n q i parts) =
+    (n < length S.scopes) × Has q × PartsStand q (all_parts q parts.items) × (p ≡ node_with q parts.items)
 IsInHand S p (Leftmost s n q i) = (n < length S.scopes) × Has q × (p ≡ q)
-IsInHand S p (Those s n q i any parts) = (n < length S.scopes) × Has q × PartsStand q (all_parts q parts.items) × (p ≡ node_with q parts.items)
+IsInHand S p (Those s n q i any parts) =
+    (n < length S.scopes) × Has q × PartsStand q (all_parts q parts.items) × (p ≡ node_with q parts.items)
 
 -- The answer of the focus, passed through the frames, is the whole answer.
 pub record HoldsIn (W : World) (sub : Standing) (whole : Answer) (S : State) (hand : Hand) : Type 0 where

@@ -28,7 +28,8 @@ placed-later t p (stopped why) k = refl
 pub more_steps_apply_the_same : MoreStepsApplyTheSame
 more_steps_apply_the_same W p r b t k =
     elim (at t p) as (λ o. option_map_or (λ u. placed t p (run_whole W (length p) r b u)) o fails ≢ stops spent
-    → option_map_or (λ u. placed t p (run_whole W (length p) r (b + k) u)) o fails ≡ option_map_or (λ u. placed t p (run_whole W (length p) r b u)) o fails) [
+    → option_map_or (λ u. placed t p (run_whole W (length p) r (b + k) u)) o fails
+    ≡ option_map_or (λ u. placed t p (run_whole W (length p) r b u)) o fails) [
       | None ↦ λ n. refl
       | Some u ↦ λ n.
           ap (placed t p) (more_steps_give_the_same W _ (length p) r.strategy b _ u k (λ is. n (ap (placed t p) is)))
@@ -40,9 +41,11 @@ more_steps_apply_the_same W p r b t k =
 pub more_room_applies_the_same : MoreRoomAppliesTheSame
 more_room_applies_the_same W p r b t k =
     elim (at t p) as (λ o. option_map_or (λ u. placed t p (run_whole W (length p) r b u)) o fails ≢ stops big
-    → option_map_or (λ u. placed t p (run_whole (in_room (W.room + k) W) (length p) r b u)) o fails ≡ option_map_or (λ u. placed t p (run_whole W (length p) r b u)) o fails) [
+    → option_map_or (λ u. placed t p (run_whole (in_room (W.room + k) W) (length p) r b u)) o fails
+    ≡ option_map_or (λ u. placed t p (run_whole W (length p) r b u)) o fails) [
       | None ↦ λ n. refl
-      | Some u ↦ λ n. ap (placed t p) (more_room_gives_the_same W _ (length p) r.strategy b _ u k (λ is. n (ap (placed t p) is)))
+      | Some u ↦ λ n.
+          ap (placed t p) (more_room_gives_the_same W _ (length p) r.strategy b _ u k (λ is. n (ap (placed t p) is)))
     ]
 
 -- ---- heights
@@ -55,7 +58,8 @@ height-set [] l whole t u is h low =
     let before : l + 0 + height t ≤ MAX_HEIGHT = omega (arith, low, ap height same) in
     omega (arith, h before)
 height-set (i ∷ p) l whole t u is h low =
-    elim (slice_get (children whole) i) as (λ o. slice_get (children whole) i ≡ o → l + height (set_at whole (i ∷ p) u) ≤ MAX_HEIGHT) [
+    elim (slice_get (children whole) i) as (λ o.
+    slice_get (children whole) i ≡ o → l + height (set_at whole (i ∷ p) u) ≤ MAX_HEIGHT) [
       | None ↦ λ no. absurd (let none = sym (at-no_child whole i p no) ∙ is in cc)
       | Some kid ↦ λ some.
           subst (λ x. l + height x ≤ MAX_HEIGHT) (sym (set_at-child whole kid u i p some))
@@ -70,23 +74,27 @@ height-set (i ∷ p) l whole t u is h low =
 -- ---- what holds of the whole tree, from what holds of the subterm
 
 given : (P : Tree → Edits → Type 0) (Q : Tree → Bindings → ℕ → Edits → Type 0) (t : Tree) (p : List ℕ) (a : Answer)
-    → IfDone a Q → ((u : Tree) (B : Bindings) (b : ℕ) (e : Edits) → Q u B b e → P (set_at t p u) (prefixed p e)) → IfGiven (placed t p a) P
+    → IfDone a Q → ((u : Tree) (B : Bindings) (b : ℕ) (e : Edits) → Q u B b e → P (set_at t p u) (prefixed p e))
+    → IfGiven (placed t p a) P
 given P Q t p (done u B b e) h g = g u B b e h
 given P Q t p (failed b) h g = tt
 given P Q t p (stopped why) h g = tt
 
 -- if there is a subterm, and a run on it
 applied-given : (P : Tree → Edits → Type 0) (W : World) (p : List ℕ) (r : Resolved) (b : ℕ) (t : Tree)
-    → ((u : Tree) → at t p ≡ Some u → IfGiven (placed t p (run_whole W (length p) r b u)) P) → IfGiven (applied W p r b t) P
+    → ((u : Tree) → at t p ≡ Some u → IfGiven (placed t p (run_whole W (length p) r b u)) P)
+    → IfGiven (applied W p r b t) P
 applied-given P W p r b t h =
-    elim (at t p) as (λ o. at t p ≡ o → IfGiven (option_map_or (λ u. placed t p (run_whole W (length p) r b u)) o fails) P) [
+    elim (at t p) as (λ o.
+    at t p ≡ o → IfGiven (option_map_or (λ u. placed t p (run_whole W (length p) r b u)) o fails) P) [
       | None ↦ λ is. tt
       | Some u ↦ λ is. h u is
     ] refl
 
 pub applied_keeps_heights : AppliedKeepsHeights
 applied_keeps_heights W p r b t low =
-    applied-given _ W p r b t (λ u is. kept u is (run_whole W (length p) r b u) (λ l. heights_are_kept W _ (length p) r.strategy b _ u l)) where
+    applied-given _ W p r b t
+    (λ u is. kept u is (run_whole W (length p) r b u) (λ l. heights_are_kept W _ (length p) r.strategy b _ u l)) where
       kept : (u : Tree) → at t p ≡ Some u → (a : Answer)
           → (length p + height u ≤ MAX_HEIGHT → IfDone a (λ v B c e. length p + height v ≤ MAX_HEIGHT))
           → IfGiven (placed t p a) (λ v e. height v ≤ MAX_HEIGHT)

@@ -38,7 +38,8 @@ module _ (K : ℕ → Tree → Tree → Edits → Type 0) (k : Composes K) where
   abbrev pub PartGives : Evaluation → Type 0
   PartGives part = (E : Scope) (l : ℕ) (s : ResolvedStrategy) → ActGives l (part E l s)
 
-  either-gives : (P : Tree → Edits → Type 0) (l : ℕ) (t : Tree) (a : Answer) (go : Tree → Bindings → ℕ → Edits → Answer) (back : ℕ → Answer)
+  either-gives : (P : Tree → Edits → Type 0) (l : ℕ) (t : Tree) (a : Answer)
+      (go : Tree → Bindings → ℕ → Edits → Answer) (back : ℕ → Answer)
       → IfDone a (λ u B b e. P u e)
       → ((u : Tree) (B : Bindings) (b : ℕ) (e : Edits) → P u e → Gives l t (go u B b e))
       → ((b : ℕ) → Gives l t (back b)) → Gives l t (either a go back)
@@ -55,16 +56,19 @@ module _ (K : ℕ → Tree → Tree → Edits → Type 0) (k : Composes K) where
   and_then-gives l t a f h g =
       either-gives (K l t) l t a _ _ h (λ u B b e r. edits-give l t u e (f b B u) r (g b B u)) (λ b. tt)
 
-  some-gives : {A : Type 0} (l : ℕ) (t : Tree) (o : Option A) (c : ℕ) (go : A → Answer) → ((x : A) → o ≡ Some x → Gives l t (go x)) → Gives l t (with_some o c go)
+  some-gives : {A : Type 0} (l : ℕ) (t : Tree) (o : Option A) (c : ℕ)
+      (go : A → Answer) → ((x : A) → o ≡ Some x → Gives l t (go x)) → Gives l t (with_some o c go)
   some-gives l t None c go h = tt
   some-gives l t (Some x) c go h = h x refl
 
   one-gives : (f : Act) (i l : ℕ) → ActGives (l + 1) f → ActGives l (on_child f i)
   one-gives f i l h c B t =
       some-gives l t (slice_get (children t) i) c _
-      (λ u is. either-gives (K (l + 1) u) l t (f c B u) _ _ (h c B u) (λ v B1 b e r. k.below l t u v i e is r) (λ b. tt))
+      (λ u is.
+      either-gives (K (l + 1) u) l t (f c B u) _ _ (h c B u) (λ v B1 b e r. k.below l t u v i e is r) (λ b. tt))
 
-  each-gives : (f : ResolvedStrategy → Act) (ss : List ResolvedStrategy) (i l : ℕ) → ((s : ResolvedStrategy) → ActGives (l + 1) (f s)) → ActGives l (each f ss i)
+  each-gives : (f : ResolvedStrategy → Act) (ss : List ResolvedStrategy) (i l : ℕ)
+      → ((s : ResolvedStrategy) → ActGives (l + 1) (f s)) → ActGives l (each f ss i)
   each-gives f [] i l h c B t = k.left l t
   each-gives f (x ∷ ss) i l h c B t =
       and_then-gives l t (on_child (f x) i c B t) _ (one-gives (f x) i l (h x) c B t) (each-gives f ss (i + 1) l h)
@@ -96,19 +100,22 @@ module _ (K : ℕ → Tree → Tree → Edits → Type 0) (k : Composes K) where
   if-gives l t true a b h = h
   if-gives l t false a b h = tt
 
-  built-gives : (room l : ℕ) (t : Tree) (o : Option Tree) (c : ℕ) (go : Tree → Answer) → ((u : Tree) → fits room l u ≡ true → Gives l t (go u)) → Gives l t (built room o l c go)
+  built-gives : (room l : ℕ) (t : Tree) (o : Option Tree) (c : ℕ)
+      (go : Tree → Answer) → ((u : Tree) → fits room l u ≡ true → Gives l t (go u)) → Gives l t (built room o l c go)
   built-gives room l t o c go h = some-gives l t o c _ (λ u is. by u (fits room l u) (h u)) where
     by : (u : Tree) (v : Bool) → (v ≡ true → Gives l t (go u)) → Gives l t (cond v (go u) (stopped big))
     by u true g = g refl
     by u false g = tt
 
-  built_all-gives : (room l : ℕ) (t : Tree) (ps : ResolvedPatterns) (E : List ℕ) (B : Bindings) (c : ℕ) (go : List Tree → Answer)
+  built_all-gives : (room l : ℕ) (t : Tree) (ps : ResolvedPatterns) (E : List ℕ) (B : Bindings) (c : ℕ)
+      (go : List Tree → Answer)
       → ((us : List Tree) → Gives l t (go us)) → Gives l t (built_all room ps E B l c go)
   built_all-gives room l t no_resolved_patterns E B c go h = h []
   built_all-gives room l t (and_resolved_pattern p ps) E B c go h =
       built-gives room l t (build_pattern p E B) c _ (λ u fit. built_all-gives room l t ps E B c _ (λ us. h (u ∷ us)))
 
-  opened-gives : (part : Evaluation) (E : Scope) (new : Bindings) (l : ℕ) (x : ResolvedStrategy) → PartGives part → ActGives l (opened part E new l x)
+  opened-gives : (part : Evaluation) (E : Scope) (new : Bindings) (l : ℕ) (x : ResolvedStrategy) → PartGives part
+      → ActGives l (opened part E new l x)
   opened-gives part E new l x h c B t =
       either-gives (K l t) l t (part E l x c (B ++ new) t) _ _ (h E l x c (B ++ new) t) (λ u B1 b e r. r) (λ b. tt)
 
@@ -133,7 +140,8 @@ module _ (K : ℕ → Tree → Tree → Edits → Type 0) (k : Composes K) where
       built_all-gives W.room l t ps (cells_in E) B c _ (λ us. some-gives l t (slice_get W.bodies f) c _
       (λ d is. opened-gives part _ (map Some us ++ replicate d.variables None) l d.strategy h c B t))
   form-gives W part h E l (congruence x ss) c B t =
-      if-gives l t (is_over x (length (resolved_list ss)) t) _ c (each-gives _ (resolved_list ss) 0 l (h E (l + 1)) c B t)
+      if-gives l t (is_over x (length (resolved_list ss)) t) _ c
+      (each-gives _ (resolved_list ss) 0 l (h E (l + 1)) c B t)
   form-gives W part h E l (tail_congruence ss s1) c B t =
       if-gives l t (is_list_from (length (resolved_list ss)) (elements t)) _ c
       (and_then-gives l t _ _ (each-gives _ (resolved_list ss) 0 l (h E (l + 1)) c B t)

@@ -39,7 +39,8 @@ get_after (x ∷ xs) ys k =
     let next : length (x ∷ xs) + k ≡ suc (length xs + k) = omega arith in
     ap (slice_get (x ∷ (xs ++ ys))) next ∙ get_after xs ys k
 
-set_after : {X : Type 0} (xs ys : List X) (k : ℕ) (y : X) → slice_set (xs ++ ys) (length xs + k) y ≡ xs ++ slice_set ys k y
+set_after : {X : Type 0} (xs ys : List X) (k : ℕ) (y : X)
+    → slice_set (xs ++ ys) (length xs + k) y ≡ xs ++ slice_set ys k y
 set_after xs ys k y =
     let past : length xs ≤ length xs + k = omega arith in
     let rest : (length xs + k) - length xs ≡ k = omega arith in
@@ -72,7 +73,8 @@ module _ (p q : ℕ) where
   cells_weaker zero (c ∷ cs) (d ∷ ds) h = h
   cells_weaker (suc m) (c ∷ cs) (d ∷ ds) h = cells_weaker m cs ds h.1
 
-  cells_more : (m : ℕ) (cs ds ns ms : List ℕ) → CellsMatch p q m cs ds → CellsMatch p q zero ns ms → CellsMatch p q m (cs ++ ns) (ds ++ ms)
+  cells_more : (m : ℕ) (cs ds ns ms : List ℕ) → CellsMatch p q m cs ds → CellsMatch p q zero ns ms
+      → CellsMatch p q m (cs ++ ns) (ds ++ ms)
   cells_more m [] [] ns ms h g = cells_weaker m ns ms g
   cells_more m [] (d ∷ ds) ns ms h g = absurd h
   cells_more m (c ∷ cs) [] ns ms h g = absurd h
@@ -83,7 +85,8 @@ module _ (p q : ℕ) where
   new_cells zero i a c e f = tt
   new_cells (suc n) i a c e f = ((i, e, f), new_cells n (i + 1) (a + 1) (c + 1) (omega (arith, e)) (omega (arith, f)))
 
-  with_more : (m n i a c : ℕ) (E F : Scope) → a ≡ p + i → c ≡ q + i → ScopesMatch p q m E F → ScopesMatch p q m (with_variables E a n) (with_variables F c n)
+  with_more : (m n i a c : ℕ) (E F : Scope) → a ≡ p + i → c ≡ q + i → ScopesMatch p q m E F
+      → ScopesMatch p q m (with_variables E a n) (with_variables F c n)
   with_more m n i a c (inside cs ns) (inside ds ms) e f h = (cells_more m cs ds _ _ h.0 (new_cells n i a c e f), h.1)
 
   -- what a name stands for in both, or nothing
@@ -102,26 +105,31 @@ module _ (p q : ℕ) where
   stands : (m x : ℕ) (E F : Scope) → ScopesMatch p q m E F → SameName (stands_for E x) (stands_for F x)
   stands m x (inside cs ns) (inside ds ms) h = name_at ns ms x h.1
 
-  names_more : (m : ℕ) (ns ms : Closures) (s : ResolvedStrategy) (E F : Scope) → NamesMatch p q ns ms → strategy_from m s ≡ true → ScopesMatch p q m E F
+  names_more : (m : ℕ) (ns ms : Closures) (s : ResolvedStrategy) (E F : Scope) → NamesMatch p q ns ms
+      → strategy_from m s ≡ true → ScopesMatch p q m E F
       → NamesMatch p q (with_closure ns s E) (with_closure ms s F)
   names_more m no_closures no_closures s E F h e g = (refl, (m, e, g), tt)
   names_more m no_closures (and_closure r G ms) s E F h e g = absurd h
   names_more m (and_closure t D ns) no_closures s E F h e g = absurd h
   names_more m (and_closure t D ns) (and_closure r G ms) s E F h e g = (h.0, h.1, names_more m ns ms s E F h.2 e g)
 
-  with_one : (m : ℕ) (s : ResolvedStrategy) (E F G H : Scope) → ScopesMatch p q m E F → strategy_from m s ≡ true → ScopesMatch p q m G H → ScopesMatch p q m (with_name E s G) (with_name F s H)
+  with_one : (m : ℕ) (s : ResolvedStrategy) (E F G H : Scope) → ScopesMatch p q m E F
+      → strategy_from m s ≡ true → ScopesMatch p q m G H → ScopesMatch p q m (with_name E s G) (with_name F s H)
   with_one m s (inside cs ns) (inside ds ms) G H h e g = (h.0, names_more m ns ms s G H h.1 e g)
 
   -- what two strategies stand for as arguments
   abbrev SameArgument : Closure → Closure → Type 0
-  SameArgument k r = (k.strategy ≡ r.strategy) × ((m : ℕ) × (strategy_from m k.strategy ≡ true) × ScopesMatch p q m k.written_in r.written_in)
+  SameArgument k r = (k.strategy ≡ r.strategy)
+      × ((m : ℕ) × (strategy_from m k.strategy ≡ true) × ScopesMatch p q m k.written_in r.written_in)
 
   name_argument : (m x : ℕ) (E F : Scope) (o r : Option Closure) → ScopesMatch p q m E F → SameName o r
-      → SameArgument (unwrap_or o (record { strategy = param x; written_in = E })) (unwrap_or r (record { strategy = param x; written_in = F }))
+      → SameArgument (unwrap_or o (record { strategy = param x; written_in = E }))
+      (unwrap_or r (record { strategy = param x; written_in = F }))
   name_argument m x E F None r h e = rw e (refl, (m, refl, h))
   name_argument m x E F (Some k) r h e = rw e.1 (e.2, e.3)
 
-  one_argument : (m : ℕ) (s : ResolvedStrategy) (E F : Scope) → ScopesMatch p q m E F → strategy_from m s ≡ true → SameArgument (argument E s) (argument F s)
+  one_argument : (m : ℕ) (s : ResolvedStrategy) (E F : Scope) → ScopesMatch p q m E F
+      → strategy_from m s ≡ true → SameArgument (argument E s) (argument F s)
   one_argument m (param x) E F h e = name_argument m x E F (stands_for E x) (stands_for F x) h (stands m x E F h)
   one_argument m id E F h e = (refl, (m, e, h))
   one_argument m fail E F h e = (refl, (m, e, h))
@@ -141,7 +149,8 @@ module _ (p q : ℕ) where
   one_argument m (rec a) E F h e = (refl, (m, e, h))
   one_argument m (prim n ps) E F h e = (refl, (m, e, h))
 
-  all_arguments : (m : ℕ) (ss : ResolvedStrategies) (E F : Scope) → ScopesMatch p q m E F → strategies_from m ss ≡ true → NamesMatch p q (arguments E ss) (arguments F ss)
+  all_arguments : (m : ℕ) (ss : ResolvedStrategies) (E F : Scope) → ScopesMatch p q m E F
+      → strategies_from m ss ≡ true → NamesMatch p q (arguments E ss) (arguments F ss)
   all_arguments m no_strategies E F h e = tt
   all_arguments m (and_strategy s ss) E F h e =
       let one = one_argument m s E F h (and-left (strategy_from m s) (strategies_from m ss) e) in
@@ -161,7 +170,8 @@ mutual
 
   patterns_all : (ps : ResolvedPatterns) → patterns_from zero ps ≡ true
   patterns_all no_resolved_patterns = refl
-  patterns_all (and_resolved_pattern a ps) = both (pattern_from zero a) (patterns_from zero ps) (pattern_all a) (patterns_all ps)
+  patterns_all (and_resolved_pattern a ps) =
+      both (pattern_from zero a) (patterns_from zero ps) (pattern_all a) (patterns_all ps)
 
 mutual
   strategy_all : (s : ResolvedStrategy) → strategy_from zero s ≡ true
@@ -171,13 +181,16 @@ mutual
   strategy_all (builds a) = pattern_all a
   strategy_all (seq a c) = both (strategy_from zero a) (strategy_from zero c) (strategy_all a) (strategy_all c)
   strategy_all (guard a c d) =
-      both (strategy_from zero a) (strategy_from zero c && strategy_from zero d) (strategy_all a) (both (strategy_from zero c) (strategy_from zero d) (strategy_all c) (strategy_all d))
+      both (strategy_from zero a) (strategy_from zero c && strategy_from zero d) (strategy_all a)
+      (both (strategy_from zero c) (strategy_from zero d) (strategy_all c) (strategy_all d))
   strategy_all (test a) = strategy_all a
   strategy_all (scope n a) = strategy_all a
   strategy_all (param x) = refl
-  strategy_all (call f ss ps) = both (strategies_from zero ss) (patterns_from zero ps) (strategies_all ss) (patterns_all ps)
+  strategy_all (call f ss ps) =
+      both (strategies_from zero ss) (patterns_from zero ps) (strategies_all ss) (patterns_all ps)
   strategy_all (congruence a ss) = strategies_all ss
-  strategy_all (tail_congruence ss a) = both (strategies_from zero ss) (strategy_from zero a) (strategies_all ss) (strategy_all a)
+  strategy_all (tail_congruence ss a) =
+      both (strategies_from zero ss) (strategy_from zero a) (strategies_all ss) (strategy_all a)
   strategy_all (all a) = strategy_all a
   strategy_all (one a) = strategy_all a
   strategy_all (some a) = strategy_all a
@@ -187,7 +200,8 @@ mutual
 
   strategies_all : (ss : ResolvedStrategies) → strategies_from zero ss ≡ true
   strategies_all no_strategies = refl
-  strategies_all (and_strategy a ss) = both (strategy_from zero a) (strategies_from zero ss) (strategy_all a) (strategies_all ss)
+  strategies_all (and_strategy a ss) =
+      both (strategy_from zero a) (strategies_from zero ss) (strategy_all a) (strategies_all ss)
 
 -- ---- strategies in a list
 
@@ -195,12 +209,16 @@ abbrev AllOk : (ResolvedStrategy → Type 0) → List ResolvedStrategy → Type 
 AllOk ok [] = Unit {0}
 AllOk ok (s ∷ ss) = ok s × AllOk ok ss
 
-all_from : (m : ℕ) (ss : ResolvedStrategies) → strategies_from m ss ≡ true → AllOk (λ s. strategy_from m s ≡ true) (resolved_list ss)
+all_from : (m : ℕ) (ss : ResolvedStrategies)
+    → strategies_from m ss ≡ true → AllOk (λ s. strategy_from m s ≡ true) (resolved_list ss)
 all_from m no_strategies e = tt
-all_from m (and_strategy s ss) e =
-    (and-left (strategy_from m s) (strategies_from m ss) e, all_from m ss (and-right (strategy_from m s) (strategies_from m ss) e))
+all_from m (and_strategy s ss) e = (
+  and-left (strategy_from m s) (strategies_from m ss) e,
+  all_from m ss (and-right (strategy_from m s) (strategies_from m ss) e),
+)
 
-all_copies : (m n : ℕ) (s : ResolvedStrategy) → strategy_from m s ≡ true → AllOk (λ r. strategy_from m r ≡ true) (replicate n s)
+all_copies : (m n : ℕ) (s : ResolvedStrategy)
+    → strategy_from m s ≡ true → AllOk (λ r. strategy_from m r ≡ true) (replicate n s)
 all_copies m zero s e = tt
 all_copies m (suc n) s e = (e, all_copies m n s e)
 
@@ -228,47 +246,62 @@ module _ (B C : Bindings) where
   bound_if N true o r h = h
   bound_if N false o r h = refl
 
-  put_bound : (N : Bindings) (k : ℕ) (t : Tree) (o : Option (Option Tree)) → Bound N (put_or_same (B ++ N) (length B + k) t o) (put_or_same (C ++ N) (length C + k) t o)
+  put_bound : (N : Bindings) (k : ℕ) (t : Tree) (o : Option (Option Tree))
+      → Bound N (put_or_same (B ++ N) (length B + k) t o) (put_or_same (C ++ N) (length C + k) t o)
   put_bound N k t None = refl
-  put_bound N k t (Some None) = (slice_set N k (Some t), set_after B N k (Some t), length-set N k (Some t), ap Some (set_after C N k (Some t)))
+  put_bound N k t (Some None) =
+      (slice_set N k (Some t), set_after B N k (Some t), length-set N k (Some t), ap Some (set_after C N k (Some t)))
   put_bound N k t (Some (Some u)) = bound_if N (same_tree u t) (Some (B ++ N)) (Some (C ++ N)) (N, refl, refl, refl)
 
   bind_found : (N : Bindings) (t : Tree) (o r : Option ℕ) → Found (length B) (length C) o r
-      → Bound N (option_and_then (λ i. put_or_same (B ++ N) i t (slice_get (B ++ N) i)) o) (option_and_then (λ i. put_or_same (C ++ N) i t (slice_get (C ++ N) i)) r)
+      → Bound N (option_and_then (λ i. put_or_same (B ++ N) i t (slice_get (B ++ N) i)) o)
+      (option_and_then (λ i. put_or_same (C ++ N) i t (slice_get (C ++ N) i)) r)
   bind_found N t o r (inl h) =
       rw (h.1, h.2, get_after B N h.0, get_after C N h.0) (put_bound N h.0 t (slice_get N h.0))
   bind_found N t o r (inr h) = rw (h.0, h.1) refl
 
-  bind_bound : (N : Bindings) (m x : ℕ) (t : Tree) (cs ds : List ℕ) → Cells m cs ds → nat_le m x ≡ true → Bound N (bind cs x t (B ++ N)) (bind ds x t (C ++ N))
-  bind_bound N m x t cs ds h e = bind_found N t (slice_get cs x) (slice_get ds x) (found (length B) (length C) m x cs ds h (leb-true m x e))
+  bind_bound : (N : Bindings) (m x : ℕ) (t : Tree) (cs ds : List ℕ) → Cells m cs ds
+      → nat_le m x ≡ true → Bound N (bind cs x t (B ++ N)) (bind ds x t (C ++ N))
+  bind_bound N m x t cs ds h e =
+      bind_found N t (slice_get cs x) (slice_get ds x) (found (length B) (length C) m x cs ds h (leb-true m x e))
 
   -- the elements, and then the list of the rest
-  tail_bound : (N : Bindings) (n : ℕ) (front : List Tree → List ℕ → Bindings → Option Bindings) (rest : Tree → List ℕ → Bindings → Option Bindings) (cs ds : List ℕ) (o : Option (List Tree))
-      → ((us : List Tree) → Bound N (front us cs (B ++ N)) (front us ds (C ++ N))) → ((u : Tree) (M : Bindings) → Bound M (rest u cs (B ++ M)) (rest u ds (C ++ M)))
-      → Bound N (option_and_then (λ us. option_and_then (λ D. rest (list_term (drop n us)) cs D) (front (take n us) cs (B ++ N))) o)
-      (option_and_then (λ us. option_and_then (λ D. rest (list_term (drop n us)) ds D) (front (take n us) ds (C ++ N))) o)
+  tail_bound : (N : Bindings) (n : ℕ) (front : List Tree → List ℕ → Bindings → Option Bindings)
+      (rest : Tree → List ℕ → Bindings → Option Bindings) (cs ds : List ℕ) (o : Option (List Tree))
+      → ((us : List Tree) → Bound N (front us cs (B ++ N)) (front us ds (C ++ N)))
+      → ((u : Tree) (M : Bindings) → Bound M (rest u cs (B ++ M)) (rest u ds (C ++ M)))
+      → Bound N (option_and_then
+      (λ us. option_and_then (λ D. rest (list_term (drop n us)) cs D) (front (take n us) cs (B ++ N))) o)
+      (option_and_then
+      (λ us. option_and_then (λ D. rest (list_term (drop n us)) ds D) (front (take n us) ds (C ++ N))) o)
   tail_bound N n front rest cs ds None h g = refl
-  tail_bound N n front rest cs ds (Some us) h g = bound_then N _ _ _ _ (h (take n us)) (λ M. g (list_term (drop n us)) M)
+  tail_bound N n front rest cs ds (Some us) h g =
+      bound_then N _ _ _ _ (h (take n us)) (λ M. g (list_term (drop n us)) M)
 
   mutual
-    match_bound : (N : Bindings) (m : ℕ) (x : ResolvedPattern) (t : Tree) (cs ds : List ℕ) → Cells m cs ds → pattern_from m x ≡ true
+    match_bound : (N : Bindings) (m : ℕ) (x : ResolvedPattern) (t : Tree) (cs ds : List ℕ) → Cells m cs ds
+        → pattern_from m x ≡ true
         → Bound N (match_pattern x t cs (B ++ N)) (match_pattern x t ds (C ++ N))
     match_bound N m wildcard t cs ds h e = (N, refl, refl, refl)
     match_bound N m (variable x) t cs ds h e = bind_bound N m x t cs ds h e
     match_bound N m (at x a) t cs ds h e =
         bound_then N _ _ _ _ (bind_bound N m x t cs ds h (and-left (nat_le m x) (pattern_from m a) e))
         (λ M. match_bound M m a t cs ds h (and-right (nat_le m x) (pattern_from m a) e))
-    match_bound N m (number z) t cs ds h e = bound_if N (is_integer z t) (Some (B ++ N)) (Some (C ++ N)) (N, refl, refl, refl)
-    match_bound N m (compound k ps) t cs ds h e = bound_if N (is_headed k t) _ _ (all_bound N m ps (children t) cs ds h e)
+    match_bound N m (number z) t cs ds h e =
+        bound_if N (is_integer z t) (Some (B ++ N)) (Some (C ++ N)) (N, refl, refl, refl)
+    match_bound N m (compound k ps) t cs ds h e =
+        bound_if N (is_headed k t) _ _ (all_bound N m ps (children t) cs ds h e)
     match_bound N m (with_tail ps a) t cs ds h e =
-        tail_bound N (length (resolved_pattern_list ps)) (λ us E D. match_patterns ps us E D) (λ us E D. match_pattern a us E D) cs ds (elements t)
+        tail_bound N (length (resolved_pattern_list ps)) (λ us E D. match_patterns ps us E D)
+        (λ us E D. match_pattern a us E D) cs ds (elements t)
         (λ us. all_bound N m ps us cs ds h (and-left (patterns_from m ps) (pattern_from m a) e))
         (λ u M. match_bound M m a u cs ds h (and-right (patterns_from m ps) (pattern_from m a) e))
     match_bound N m (annotated a ps) t cs ds h e =
         bound_then N _ _ _ _ (match_bound N m a (bare t) cs ds h (and-left (pattern_from m a) (patterns_from m ps) e))
         (λ M. all_bound M m ps (annotations t) cs ds h (and-right (pattern_from m a) (patterns_from m ps) e))
 
-    all_bound : (N : Bindings) (m : ℕ) (ps : ResolvedPatterns) (ts : List Tree) (cs ds : List ℕ) → Cells m cs ds → patterns_from m ps ≡ true
+    all_bound : (N : Bindings) (m : ℕ) (ps : ResolvedPatterns) (ts : List Tree) (cs ds : List ℕ) → Cells m cs ds
+        → patterns_from m ps ≡ true
         → Bound N (match_patterns ps ts cs (B ++ N)) (match_patterns ps ts ds (C ++ N))
     all_bound N m no_resolved_patterns [] cs ds h e = (N, refl, refl, refl)
     all_bound N m no_resolved_patterns (t ∷ ts) cs ds h e = refl
@@ -279,29 +312,38 @@ module _ (B C : Bindings) where
 
   -- what is built is the same
   value_found : (N : Bindings) (o r : Option ℕ) → Found (length B) (length C) o r
-      → option_and_then (λ i. option_and_then (λ x. x) (slice_get (C ++ N) i)) r ≡ option_and_then (λ i. option_and_then (λ x. x) (slice_get (B ++ N) i)) o
+      → option_and_then (λ i. option_and_then (λ x. x) (slice_get (C ++ N) i)) r
+      ≡ option_and_then (λ i. option_and_then (λ x. x) (slice_get (B ++ N) i)) o
   value_found N o r (inl h) = rw (h.1, h.2, get_after B N h.0, get_after C N h.0) refl
   value_found N o r (inr h) = rw (h.0, h.1) refl
 
   mutual
-    build_same : (N : Bindings) (m : ℕ) (x : ResolvedPattern) (cs ds : List ℕ) → Cells m cs ds → pattern_from m x ≡ true → build_pattern x ds (C ++ N) ≡ build_pattern x cs (B ++ N)
+    build_same : (N : Bindings) (m : ℕ) (x : ResolvedPattern) (cs ds : List ℕ) → Cells m cs ds
+        → pattern_from m x ≡ true → build_pattern x ds (C ++ N) ≡ build_pattern x cs (B ++ N)
     build_same N m wildcard cs ds h e = refl
-    build_same N m (variable x) cs ds h e = value_found N (slice_get cs x) (slice_get ds x) (found (length B) (length C) m x cs ds h (leb-true m x e))
+    build_same N m (variable x) cs ds h e =
+        value_found N (slice_get cs x) (slice_get ds x) (found (length B) (length C) m x cs ds h (leb-true m x e))
     build_same N m (at x a) cs ds h e = refl
     build_same N m (number z) cs ds h e = refl
-    build_same N m (compound k ps) cs ds h e = ap (option_map (λ us. branch k (of_list us) none)) (builds_same N m ps cs ds h e)
+    build_same N m (compound k ps) cs ds h e =
+        ap (option_map (λ us. branch k (of_list us) none)) (builds_same N m ps cs ds h e)
     build_same N m (with_tail ps a) cs ds h e =
-        ap₂ (λ (o : Option (List Tree)) (r : Option Tree). option_and_then (λ us. option_map (λ vs. list_term (us ++ vs)) (option_and_then elements r)) o)
-        (builds_same N m ps cs ds h (and-left (patterns_from m ps) (pattern_from m a) e)) (build_same N m a cs ds h (and-right (patterns_from m ps) (pattern_from m a) e))
+        ap₂ (λ (o : Option (List Tree)) (r : Option Tree).
+        option_and_then (λ us. option_map (λ vs. list_term (us ++ vs)) (option_and_then elements r)) o)
+        (builds_same N m ps cs ds h (and-left (patterns_from m ps) (pattern_from m a) e))
+        (build_same N m a cs ds h (and-right (patterns_from m ps) (pattern_from m a) e))
     build_same N m (annotated a ps) cs ds h e =
         ap₂ (λ (o : Option Tree) (r : Option (List Tree)). option_and_then (λ u. option_map (with_annotations u) r) o)
-        (build_same N m a cs ds h (and-left (pattern_from m a) (patterns_from m ps) e)) (builds_same N m ps cs ds h (and-right (pattern_from m a) (patterns_from m ps) e))
+        (build_same N m a cs ds h (and-left (pattern_from m a) (patterns_from m ps) e))
+        (builds_same N m ps cs ds h (and-right (pattern_from m a) (patterns_from m ps) e))
 
-    builds_same : (N : Bindings) (m : ℕ) (ps : ResolvedPatterns) (cs ds : List ℕ) → Cells m cs ds → patterns_from m ps ≡ true → build_patterns ps ds (C ++ N) ≡ build_patterns ps cs (B ++ N)
+    builds_same : (N : Bindings) (m : ℕ) (ps : ResolvedPatterns) (cs ds : List ℕ) → Cells m cs ds
+        → patterns_from m ps ≡ true → build_patterns ps ds (C ++ N) ≡ build_patterns ps cs (B ++ N)
     builds_same N m no_resolved_patterns cs ds h e = refl
     builds_same N m (and_resolved_pattern a ps) cs ds h e =
         ap₂ (λ (o : Option Tree) (r : Option (List Tree)). option_and_then (λ u. option_map (λ us. u ∷ us) r) o)
-        (build_same N m a cs ds h (and-left (pattern_from m a) (patterns_from m ps) e)) (builds_same N m ps cs ds h (and-right (pattern_from m a) (patterns_from m ps) e))
+        (build_same N m a cs ds h (and-left (pattern_from m a) (patterns_from m ps) e))
+        (builds_same N m ps cs ds h (and-right (pattern_from m a) (patterns_from m ps) e))
 
   -- ---- answers
 
@@ -321,8 +363,10 @@ module _ (B C : Bindings) where
   alike_as N M (stopped spent) a' l h = h
   alike_as N M (stopped big) a' l h = h
 
-  either-alike : (N : Bindings) (a a' : Answer) (go go' : Tree → Bindings → ℕ → Edits → Answer) (back back' : ℕ → Answer) → Alike N a a'
-      → ((t : Tree) (M : Bindings) (b : ℕ) (e : Edits) → Alike M (go t (B ++ M) b e) (go' t (C ++ M) b e)) → ((b : ℕ) → Alike N (back b) (back' b))
+  either-alike : (N : Bindings) (a a' : Answer)
+      (go go' : Tree → Bindings → ℕ → Edits → Answer) (back back' : ℕ → Answer) → Alike N a a'
+      → ((t : Tree) (M : Bindings) (b : ℕ) (e : Edits) → Alike M (go t (B ++ M) b e) (go' t (C ++ M) b e))
+      → ((b : ℕ) → Alike N (back b) (back' b))
       → Alike N (either a go back) (either a' go' back')
   either-alike N (done t D b e) a' go go' back back' h hgo hback =
       rw (h.1, h.3) (alike_as N h.0 (go t (B ++ h.0) b e) (go' t (C ++ h.0) b e) h.2 (hgo t h.0 b e))
@@ -331,39 +375,48 @@ module _ (B C : Bindings) where
   either-alike N (stopped big) a' go go' back back' h hgo hback = tt
 
   if_done-alike : (N : Bindings) (a a' : Answer) (go go' : Tree → Bindings → ℕ → Edits → Answer) → Alike N a a'
-      → ((t : Tree) (M : Bindings) (b : ℕ) (e : Edits) → Alike M (go t (B ++ M) b e) (go' t (C ++ M) b e)) → Alike N (if_done a go) (if_done a' go')
+      → ((t : Tree) (M : Bindings) (b : ℕ) (e : Edits) → Alike M (go t (B ++ M) b e) (go' t (C ++ M) b e))
+      → Alike N (if_done a go) (if_done a' go')
   if_done-alike N a a' go go' h hgo = either-alike N a a' go go' failed failed h hgo (λ b. refl)
 
   edits-alike : (N : Bindings) (e : Edits) (a a' : Answer) → Alike N a a' → Alike N (with_edits e a) (with_edits e a')
   edits-alike N e a a' h = if_done-alike N a a' _ _ h (λ t M b f. (M, refl, refl, refl))
 
-  and_then-alike : (N : Bindings) (a a' : Answer) (f g : Act) → Alike N a a' → ActsAlike f g → Alike N (and_then a f) (and_then a' g)
+  and_then-alike : (N : Bindings) (a a' : Answer) (f g : Act) → Alike N a a' → ActsAlike f g
+      → Alike N (and_then a f) (and_then a' g)
   and_then-alike N a a' f g h k = if_done-alike N a a' _ _ h (λ t M b e. edits-alike M e _ _ (k b M t))
 
-  some-alike : {A : Type 0} (N : Bindings) (o : Option A) (b : ℕ) (go go' : A → Answer) → ((x : A) → Alike N (go x) (go' x)) → Alike N (with_some o b go) (with_some o b go')
+  some-alike : {A : Type 0} (N : Bindings) (o : Option A) (b : ℕ)
+      (go go' : A → Answer) → ((x : A) → Alike N (go x) (go' x)) → Alike N (with_some o b go) (with_some o b go')
   some-alike N None b go go' h = refl
   some-alike N (Some x) b go go' h = h x
 
   one-alike : (f g : Act) (i : ℕ) → ActsAlike f g → ActsAlike (on_child f i) (on_child g i)
   one-alike f g i h b N t =
-      some-alike N (slice_get (children t) i) b _ _ (λ u. if_done-alike N _ _ _ _ (h b N u) (λ v M c e. (M, refl, refl, refl)))
+      some-alike N (slice_get (children t) i) b _ _
+      (λ u. if_done-alike N _ _ _ _ (h b N u) (λ v M c e. (M, refl, refl, refl)))
 
-  each-alike : (f g : ResolvedStrategy → Act) (ok : ResolvedStrategy → Type 0) (ss : List ResolvedStrategy) (i : ℕ) → ((s : ResolvedStrategy) → ok s → ActsAlike (f s) (g s))
+  each-alike : (f g : ResolvedStrategy → Act) (ok : ResolvedStrategy → Type 0) (ss : List ResolvedStrategy) (i : ℕ)
+      → ((s : ResolvedStrategy) → ok s → ActsAlike (f s) (g s))
       → AllOk ok ss → ActsAlike (each f ss i) (each g ss i)
   each-alike f g ok [] i h k b N t = (N, refl, refl, refl)
   each-alike f g ok (x ∷ ss) i h k b N t =
-      and_then-alike N _ _ _ _ (one-alike (f x) (g x) i (h x k.0) b N t) (λ c M u. each-alike f g ok ss (i + 1) h k.1 c M u)
+      and_then-alike N _ _ _ _ (one-alike (f x) (g x) i (h x k.0) b N t)
+      (λ c M u. each-alike f g ok ss (i + 1) h k.1 c M u)
 
   leftmost-alike : (f g : Act) (n i : ℕ) → ActsAlike f g → ActsAlike (leftmost f n i) (leftmost g n i)
   leftmost-alike f g zero i h b N t = refl
   leftmost-alike f g (suc n) i h b N t =
-      either-alike N _ _ _ _ _ _ (one-alike f g i h b N t) (λ u M c e. (M, refl, refl, refl)) (λ c. leftmost-alike f g n (i + 1) h c N t)
+      either-alike N _ _ _ _ _ _ (one-alike f g i h b N t) (λ u M c e. (M, refl, refl, refl))
+      (λ c. leftmost-alike f g n (i + 1) h c N t)
 
-  those-alike : (f g : Act) (n : ℕ) (any : Bool) (i : ℕ) → ActsAlike f g → ActsAlike (those_done f n any i) (those_done g n any i)
+  those-alike : (f g : Act) (n : ℕ) (any : Bool) (i : ℕ) → ActsAlike f g
+      → ActsAlike (those_done f n any i) (those_done g n any i)
   those-alike f g zero true i h b N t = (N, refl, refl, refl)
   those-alike f g zero false i h b N t = refl
   those-alike f g (suc n) any i h b N t =
-      either-alike N _ _ _ _ _ _ (one-alike f g i h b N t) (λ u M c e. edits-alike M e _ _ (those-alike f g n true (i + 1) h c M u))
+      either-alike N _ _ _ _ _ _ (one-alike f g i h b N t)
+      (λ u M c e. edits-alike M e _ _ (those-alike f g n true (i + 1) h c M u))
       (λ c. those-alike f g n any (i + 1) h c N t)
 
   number-alike : (f g : Act) (n : ℕ) → ActsAlike f g → ActsAlike (on_child_number f n) (on_child_number g n)
@@ -372,18 +425,23 @@ module _ (B C : Bindings) where
 
   rest-alike : (f g : Act) (n : ℕ) → ActsAlike f g → ActsAlike (on_rest f n) (on_rest g n)
   rest-alike f g n h b N t =
-      if_done-alike N _ _ _ _ (h b N (rest_of n t)) (λ u M c e. some-alike M (elements u) c _ _ (λ us. (M, refl, refl, refl)))
+      if_done-alike N _ _ _ _ (h b N (rest_of n t))
+      (λ u M c e. some-alike M (elements u) c _ _ (λ us. (M, refl, refl, refl)))
 
-  if-alike : (N : Bindings) (v : Bool) (a a' : Answer) (b : ℕ) → Alike N a a' → Alike N (cond v a (failed b)) (cond v a' (failed b))
+  if-alike : (N : Bindings) (v : Bool) (a a' : Answer) (b : ℕ) → Alike N a a'
+      → Alike N (cond v a (failed b)) (cond v a' (failed b))
   if-alike N true a a' b h = h
   if-alike N false a a' b h = refl
 
-  match-alike : (N : Bindings) (o r : Option Bindings) (b : ℕ) (t : Tree) → Bound N o r → Alike N (with_some o b (λ D. done t D b [])) (with_some r b (λ D. done t D b []))
+  match-alike : (N : Bindings) (o r : Option Bindings) (b : ℕ) (t : Tree) → Bound N o r
+      → Alike N (with_some o b (λ D. done t D b [])) (with_some r b (λ D. done t D b []))
   match-alike N None r b t h = rw h refl
-  match-alike N (Some D) r b t h = (h.0, h.1, h.2, ap (λ (o : Option Bindings). with_some o b (λ D1. done t D1 b [])) h.3)
+  match-alike N (Some D) r b t h =
+      (h.0, h.1, h.2, ap (λ (o : Option Bindings). with_some o b (λ D1. done t D1 b [])) h.3)
 
   -- new cells, which go again
-  cut-alike : (N new : Bindings) (a a' : Answer) → Alike (N ++ new) a a' → Alike N (cut (length (B ++ N)) a) (cut (length (C ++ N)) a')
+  cut-alike : (N new : Bindings) (a a' : Answer) → Alike (N ++ new) a a'
+      → Alike N (cut (length (B ++ N)) a) (cut (length (C ++ N)) a')
   cut-alike N new (done t D b e) a' h =
       let M = h.0 in
       let enough : length N ≤ length M = omega (arith, h.2, length-append N new) in (
@@ -404,28 +462,37 @@ module _ (B C : Bindings) where
     PartsAlike part other = (E F : Scope) (m k l : ℕ) (s : ResolvedStrategy) → Level k l → strategy_from m s ≡ true
         → ScopesMatch (length B) (length C) m E F → ActsAlike (part E k s) (other F l s)
 
-    built-alike : (N : Bindings) (o r : Option Tree) (k l b : ℕ) (go go' : Tree → Answer) → Level k l → r ≡ o → ((u : Tree) → Alike N (go u) (go' u))
+    built-alike : (N : Bindings) (o r : Option Tree) (k l b : ℕ) (go go' : Tree → Answer) → Level k l
+        → r ≡ o → ((u : Tree) → Alike N (go u) (go' u))
         → Alike N (built room o k b go) (built more r l b go')
     built-alike N None r k l b go go' low e h = rw e refl
     built-alike N (Some u) r k l b go go' low e h = rw e (by (fits room k u) refl)
       where
-        by : (v : Bool) → fits room k u ≡ v → Alike N (cond v (go u) (stopped big)) (cond (fits more l u) (go' u) (stopped big))
+        by : (v : Bool)
+            → fits room k u ≡ v → Alike N (cond v (go u) (stopped big)) (cond (fits more l u) (go' u) (stopped big))
         by true is = rw (fit k l u low is) (h u)
         by false is = tt
 
-    built_all-alike : (N : Bindings) (m : ℕ) (ps : ResolvedPatterns) (cs ds : List ℕ) (k l b : ℕ) (go go' : List Tree → Answer) → Level k l → Cells m cs ds → patterns_from m ps ≡ true
-        → ((us : List Tree) → Alike N (go us) (go' us)) → Alike N (built_all room ps cs (B ++ N) k b go) (built_all more ps ds (C ++ N) l b go')
+    built_all-alike : (N : Bindings) (m : ℕ) (ps : ResolvedPatterns) (cs ds : List ℕ) (k l b : ℕ)
+        (go go' : List Tree → Answer) → Level k l → Cells m cs ds → patterns_from m ps ≡ true
+        → ((us : List Tree) → Alike N (go us) (go' us))
+        → Alike N (built_all room ps cs (B ++ N) k b go) (built_all more ps ds (C ++ N) l b go')
     built_all-alike N m no_resolved_patterns cs ds k l b go go' low h e f = f []
     built_all-alike N m (and_resolved_pattern a ps) cs ds k l b go go' low h e f =
         built-alike N _ _ k l b _ _ low (build_same N m a cs ds h (and-left (pattern_from m a) (patterns_from m ps) e))
-        (λ u. built_all-alike N m ps cs ds k l b _ _ low h (and-right (pattern_from m a) (patterns_from m ps) e) (λ us. f (u ∷ us)))
+        (λ u. built_all-alike N m ps cs ds k l b _ _ low h (and-right (pattern_from m a) (patterns_from m ps) e)
+        (λ us. f (u ∷ us)))
 
-    opened-alike : (part other : Evaluation) (E F : Scope) (m k l : ℕ) (new : Bindings) (s : ResolvedStrategy) (N : Bindings) (b : ℕ) (t : Tree) → PartsAlike part other → Level k l
-        → strategy_from m s ≡ true → ScopesMatch (length B) (length C) m E F → Alike N (opened part E new k s b (B ++ N) t) (opened other F new l s b (C ++ N) t)
+    opened-alike : (part other : Evaluation) (E F : Scope) (m k l : ℕ) (new : Bindings) (s : ResolvedStrategy)
+        (N : Bindings) (b : ℕ) (t : Tree) → PartsAlike part other → Level k l
+        → strategy_from m s ≡ true → ScopesMatch (length B) (length C) m E F
+        → Alike N (opened part E new k s b (B ++ N) t) (opened other F new l s b (C ++ N) t)
     opened-alike part other E F m k l new s N b t h low e g =
-        rw (append_assoc B N new, append_assoc C N new) (cut-alike N new (part E k s b (B ++ (N ++ new)) t) (other F l s b (C ++ (N ++ new)) t) (h E F m k l s low e g b (N ++ new) t))
+        rw (append_assoc B N new, append_assoc C N new) (cut-alike N new (part E k s b (B ++ (N ++ new)) t)
+        (other F l s b (C ++ (N ++ new)) t) (h E F m k l s low e g b (N ++ new) t))
 
-    form-alike : (W : World) (part other : Evaluation) → PartsAlike part other → PartsAlike (form (in_room room W) part) (form (in_room more W) other)
+    form-alike : (W : World) (part other : Evaluation) → PartsAlike part other
+        → PartsAlike (form (in_room room W) part) (form (in_room more W) other)
     form-alike W part other h E F m k l id low e g b N t = (N, refl, refl, refl)
     form-alike W part other h E F m k l fail low e g b N t = refl
     form-alike W part other h (inside cs ns) (inside ds ms) m k l (matches a) low e g b N t =
@@ -438,56 +505,75 @@ module _ (B C : Bindings) where
         and_then-alike N _ _ _ _ (h E F m k l s1 low one g b N t) (h E F m k l s2 low two g)
     form-alike W part other h E F m k l (guard s1 s2 s3) low e g b N t =
         let rest = and-right (strategy_from m s1) (strategy_from m s2 && strategy_from m s3) e in
-        either-alike N _ _ _ _ _ _ (h E F m k l s1 low (and-left (strategy_from m s1) (strategy_from m s2 && strategy_from m s3) e) g b N t)
-        (λ u M c f. edits-alike M f _ _ (h E F m k l s2 low (and-left (strategy_from m s2) (strategy_from m s3) rest) g c M u))
+        either-alike N _ _ _ _ _ _
+        (h E F m k l s1 low (and-left (strategy_from m s1) (strategy_from m s2 && strategy_from m s3) e) g b N t)
+        (λ u M c f.
+        edits-alike M f _ _ (h E F m k l s2 low (and-left (strategy_from m s2) (strategy_from m s3) rest) g c M u))
         (λ c. h E F m k l s3 low (and-right (strategy_from m s2) (strategy_from m s3) rest) g c N t)
     form-alike W part other h E F m k l (test s1) low e g b N t =
         if_done-alike N _ _ _ _ (h E F m k l s1 low e g b N t) (λ u M c f. (M, refl, refl, refl))
     form-alike W part other h E F m k l (scope n s1) low e g b N t =
-        opened-alike part other (with_variables E (length (B ++ N)) n) (with_variables F (length (C ++ N)) n) m k l (replicate n None) s1 N b t h low e
-        (with_more (length B) (length C) m n (length N) (length (B ++ N)) (length (C ++ N)) E F (length-append B N) (length-append C N) g)
-    form-alike W part other h E F m k l (param x) low e g b N t = by (stands_for E x) (stands_for F x) (stands (length B) (length C) m x E F g)
+        opened-alike part other (with_variables E (length (B ++ N)) n) (with_variables F (length (C ++ N)) n) m k l
+        (replicate n None) s1 N b t h low e
+        (with_more (length B) (length C) m n (length N) (length (B ++ N)) (length (C ++ N)) E F (length-append B N)
+        (length-append C N) g)
+    form-alike W part other h E F m k l (param x) low e g b N t =
+        by (stands_for E x) (stands_for F x) (stands (length B) (length C) m x E F g)
       where
         by : (o r : Option Closure) → SameName (length B) (length C) o r
-            → Alike N (with_some o b (λ z. part z.written_in k z.strategy b (B ++ N) t)) (with_some r b (λ z. other z.written_in l z.strategy b (C ++ N) t))
+            → Alike N (with_some o b (λ z. part z.written_in k z.strategy b (B ++ N) t))
+            (with_some r b (λ z. other z.written_in l z.strategy b (C ++ N) t))
         by None r f = rw f refl
         by (Some z) r f =
-            rw (f.1) (subst (λ (s : ResolvedStrategy). Alike N (part z.written_in k z.strategy b (B ++ N) t) (other f.0.written_in l s b (C ++ N) t)) f.2
+            rw (f.1) (subst (λ (s : ResolvedStrategy).
+            Alike N (part z.written_in k z.strategy b (B ++ N) t) (other f.0.written_in l s b (C ++ N) t)) f.2
             (h z.written_in f.0.written_in f.3.0 k l z.strategy low f.3.1 f.3.2 b N t))
     form-alike W part other h (inside cs ns) (inside ds ms) m k l (call f ss ps) low e g b N t =
         built_all-alike N m ps cs ds k l b _ _ low g.0 (and-right (strategies_from m ss) (patterns_from m ps) e)
         (λ us. some-alike N (slice_get W.bodies f) b _ _
-        (λ d. opened-alike part other _ _ zero k l (map Some us ++ replicate d.variables None) d.strategy N b t h low (strategy_all d.strategy) (
-          new_cells (length B) (length C) (length us + d.variables) (length N) (length (B ++ N)) (length (C ++ N)) (length-append B N) (length-append C N),
-          all_arguments (length B) (length C) m ss (inside cs ns) (inside ds ms) g (and-left (strategies_from m ss) (patterns_from m ps) e),
+        (λ d. opened-alike part other _ _ zero k l (map Some us ++ replicate d.variables None) d.strategy N b t h low
+        (strategy_all d.strategy) (
+          new_cells (length B) (length C) (length us + d.variables) (length N)
+              (length (B ++ N)) (length (C ++ N)) (length-append B N) (length-append C N),
+          all_arguments (length B) (length C) m ss (inside cs ns) (inside ds ms) g
+              (and-left (strategies_from m ss) (patterns_from m ps) e),
         )))
     form-alike W part other h E F m k l (congruence a ss) low e g b N t =
         if-alike N (is_over a (length (resolved_list ss)) t) _ _ b
-        (each-alike _ _ (λ s. strategy_from m s ≡ true) (resolved_list ss) 0 (λ s ok. h E F m (k + 1) (l + 1) s (up k l low) ok g) (all_from m ss e) b N t)
+        (each-alike _ _ (λ s. strategy_from m s ≡ true) (resolved_list ss) 0
+        (λ s ok. h E F m (k + 1) (l + 1) s (up k l low) ok g) (all_from m ss e) b N t)
     form-alike W part other h E F m k l (tail_congruence ss s1) low e g b N t =
         if-alike N (is_list_from (length (resolved_list ss)) (elements t)) _ _ b
         (and_then-alike N _ _ _ _
-        (each-alike _ _ (λ s. strategy_from m s ≡ true) (resolved_list ss) 0 (λ s ok. h E F m (k + 1) (l + 1) s (up k l low) ok g)
+        (each-alike _ _ (λ s. strategy_from m s ≡ true) (resolved_list ss) 0
+        (λ s ok. h E F m (k + 1) (l + 1) s (up k l low) ok g)
         (all_from m ss (and-left (strategies_from m ss) (strategy_from m s1) e)) b N t)
-        (rest-alike (part E k s1) (other F l s1) (length (resolved_list ss)) (h E F m k l s1 low (and-right (strategies_from m ss) (strategy_from m s1) e) g)))
+        (rest-alike (part E k s1) (other F l s1) (length (resolved_list ss))
+        (h E F m k l s1 low (and-right (strategies_from m ss) (strategy_from m s1) e) g)))
     form-alike W part other h E F m k l (all s1) low e g b N t =
-        each-alike _ _ (λ s. strategy_from m s ≡ true) (replicate (length (children t)) s1) 0 (λ s ok. h E F m (k + 1) (l + 1) s (up k l low) ok g)
+        each-alike _ _ (λ s. strategy_from m s ≡ true) (replicate (length (children t)) s1) 0
+        (λ s ok. h E F m (k + 1) (l + 1) s (up k l low) ok g)
         (all_copies m (length (children t)) s1 e) b N t
     form-alike W part other h E F m k l (one s1) low e g b N t =
         leftmost-alike _ _ (length (children t)) 0 (h E F m (k + 1) (l + 1) s1 (up k l low) e g) b N t
     form-alike W part other h E F m k l (some s1) low e g b N t =
         those-alike _ _ (length (children t)) false 0 (h E F m (k + 1) (l + 1) s1 (up k l low) e g) b N t
-    form-alike W part other h E F m k l (child n s1) low e g b N t = number-alike _ _ n (h E F m (k + 1) (l + 1) s1 (up k l low) e g) b N t
+    form-alike W part other h E F m k l (child n s1) low e g b N t =
+        number-alike _ _ n (h E F m (k + 1) (l + 1) s1 (up k l low) e g) b N t
     form-alike W part other h E F m k l (rec s1) low e g b N t =
-        h (with_name E (rec s1) E) (with_name F (rec s1) F) m k l s1 low e (with_one (length B) (length C) m (rec s1) E F E F g e g) b N t
+        h (with_name E (rec s1) E) (with_name F (rec s1) F) m k l s1 low e
+        (with_one (length B) (length C) m (rec s1) E F E F g e g) b N t
     form-alike W part other h (inside cs ns) (inside ds ms) m k l (prim n ps) low e g b N t =
-        built_all-alike N m ps cs ds k l b _ _ low g.0 e (λ us. built-alike N _ _ k l b _ _ low refl (λ u. (N, refl, refl, refl)))
+        built_all-alike N m ps cs ds k l b _ _ low g.0 e
+        (λ us. built-alike N _ _ k l b _ _ low refl (λ u. (N, refl, refl, refl)))
 
-    pub bounded-alike : (W : World) (n : ℕ) → PartsAlike (run_bounded (in_room room W) n) (run_bounded (in_room more W) n)
+    pub bounded-alike : (W : World) (n : ℕ)
+        → PartsAlike (run_bounded (in_room room W) n) (run_bounded (in_room more W) n)
     bounded-alike W zero E F m k l s low e g b N t = refl
     bounded-alike W (suc n) E F m k l s low e g zero N t = refl
     bounded-alike W (suc n) E F m k l s low e g (suc b) N t =
-        form-alike W (run_bounded (in_room room W) n) (run_bounded (in_room more W) n) (bounded-alike W n) E F m k l s low e g b N t
+        form-alike W (run_bounded (in_room room W) n) (run_bounded (in_room more W) n) (bounded-alike W n) E F m k l s
+        low e g b N t
 
 -- ---- the law
 
@@ -497,8 +583,10 @@ nothing_new (x ∷ M) e = absurd (omega (arith, e))
 
 alike_tells : (B C : Bindings) (a a' : Answer) → Alike B C [] a a' → Tells B C a a'
 alike_tells B C (done t D b e) a' h =
-    let none = nothing_new h.0 h.2 in
-    (h.1 ∙ ap (λ M. B ++ M) none ∙ append-nil B, h.3 ∙ ap (λ (M : Bindings). done t (C ++ M) b e) none ∙ ap (λ (D1 : Bindings). done t D1 b e) (append-nil C))
+    let none = nothing_new h.0 h.2 in (
+      h.1 ∙ ap (λ M. B ++ M) none ∙ append-nil B,
+      h.3 ∙ ap (λ (M : Bindings). done t (C ++ M) b e) none ∙ ap (λ (D1 : Bindings). done t D1 b e) (append-nil C),
+    )
 alike_tells B C (failed b) a' h = h
 alike_tells B C (stopped spent) a' h = h
 alike_tells B C (stopped big) a' h = tt
@@ -519,6 +607,9 @@ closed_runs_are_the_same W E F m k l s b B C t e g = (
         → ((x y : ℕ) (u : Tree) → Level x y → fits room x u ≡ true → fits more y u ≡ true) → Level k l
         → Tells B C (run (in_room room W) E k s b B t) (run (in_room more W) F l s b C t)
     tells room more Level up fit low =
-        alike_tells B C _ _ (subst (λ (D : Bindings). Alike B C [] (run (in_room room W) E k s b D t) (run (in_room more W) F l s b C t)) (append-nil B)
-        (subst (λ (D : Bindings). Alike B C [] (run (in_room room W) E k s b (B ++ []) t) (run (in_room more W) F l s b D t)) (append-nil C)
+        alike_tells B C _ _
+        (subst (λ (D : Bindings). Alike B C [] (run (in_room room W) E k s b D t) (run (in_room more W) F l s b C t))
+        (append-nil B)
+        (subst (λ (D : Bindings).
+        Alike B C [] (run (in_room room W) E k s b (B ++ []) t) (run (in_room more W) F l s b D t)) (append-nil C)
         (bounded-alike B C room more Level up fit W b E F m k l s low e g b [] t)))

@@ -76,11 +76,21 @@ below-kept l t u v i is h low =
     let before : l + 1 + height u ≤ MAX_HEIGHT = omega (arith, inner, low) in
     omega (arith, h before, below_top t, top-set (children t) i v, with_children-height t (set (children t) i v), low)
 
-after-kept : (l : ℕ) (t u : Tree) (n : ℕ) (us : List Tree) → (l + height (rest_of n t) ≤ MAX_HEIGHT → l + height u ≤ MAX_HEIGHT)
+after-kept : (l : ℕ) (t u : Tree) (n : ℕ) (us : List Tree)
+    → (l + height (rest_of n t) ≤ MAX_HEIGHT → l + height u ≤ MAX_HEIGHT)
     → elements u ≡ Some us → l + height t ≤ MAX_HEIGHT → l + height (with_rest n t us) ≤ MAX_HEIGHT
 after-kept l t u n us h is low =
     let before : l + height (rest_of n t) ≤ MAX_HEIGHT = omega (arith, top-drop (children t) n, below_top t, low) in
-    omega (arith, h before, elements-height u us is, below_top t, top-take (children t) n, top-append (take n (children t)) us, with_children-height t (take n (children t) ++ us), low)
+    omega (
+      arith,
+      h before,
+      elements-height u us is,
+      below_top t,
+      top-take (children t) n,
+      top-append (take n (children t)) us,
+      with_children-height t (take n (children t) ++ us),
+      low,
+    )
 
 kept : Composes Kept
 kept = record {

@@ -22,7 +22,8 @@ arith = record {
       ∷ (body (call1 0 (seq (param 0) (call1 1 (param 0))))
       ∷ (body (seq (all (call1 2 (param 0))) (param 0))
       ∷ (body (call1 2 (call1 0 (seq (param 0) (call1 3 (param 0)))))
-      ∷ (with_free 2 (seq (matches (pair (variable 0) (variable 1))) (prim 0 (resolved_patterns_of (variable 0 ∷ (variable 1 ∷ [])))))
+      ∷ (with_free 2
+      (seq (matches (pair (variable 0) (variable 1))) (prim 0 (resolved_patterns_of (variable 0 ∷ (variable 1 ∷ [])))))
       ∷ (body (scope 3 (seq (matches (pattern 80 (variable 0 ∷ (variable 1 ∷ [])))) (seq
       (test (seq (seq (builds (pair (variable 0) (variable 1))) (call0 4)) (matches (variable 2))))
       (builds (variable 2))))) ∷ [])))));
@@ -34,7 +35,8 @@ arith = record {
 abbrev number_term : ℕ → Tree
 number_term n = integer_term (pos n)
 
-innermost_sums : run_whole arith 0 (body (call1 3 (call0 5))) 100000 (Plus (number_term 1) (Plus (number_term 2) (number_term 3)))
+innermost_sums : run_whole arith 0 (body (call1 3 (call0 5))) 100000
+    (Plus (number_term 1) (Plus (number_term 2) (number_term 3)))
     ≡ done (number_term 6) [] 99877 (edit (1 ∷ []) (number_term 5) ∷ (edit [] (number_term 6) ∷ []))
 innermost_sums = refl
 
@@ -59,7 +61,8 @@ Z = application_term (word 90) []
 abbrev S : Tree → Tree
 S t = application_term (word 83) (t ∷ [])
 
-repeat_binds_once : run_whole arith 0 (with_free 1 (call1 1 (seq (matches (variable 0)) (builds (pattern 83 (variable 0 ∷ [])))))) 100000 Z
+repeat_binds_once : run_whole arith 0
+    (with_free 1 (call1 1 (seq (matches (variable 0)) (builds (pattern 83 (variable 0 ∷ [])))))) 100000 Z
     ≡ done (S Z) (Some Z ∷ []) 99981 (edit [] (S Z) ∷ [])
 repeat_binds_once = refl
 

@@ -16,7 +16,8 @@ library = record {
   bodies = body (or_else (param 0) id)
       ∷ (body (seq (param 0) (all (call1 1 (param 0))))
       ∷ (body (or_else (congruence list (resolveds_of []))
-      (tail_congruence (resolveds_of (param 0 ∷ [])) (call1 2 (param 0)))) ∷ (body (builds (pattern 71 (variable 0 ∷ []))) ∷ [])));
+      (tail_congruence (resolveds_of (param 0 ∷ [])) (call1 2 (param 0))))
+      ∷ (body (builds (pattern 71 (variable 0 ∷ []))) ∷ [])));
   primitives = standard_signatures;
   meaning = standard;
   room = MAX_SIZE;
@@ -31,12 +32,14 @@ unbound_variable : answer 1 (or_else (seq (builds (variable 0)) fail) id) 100 (G
 unbound_variable = refl
 
 -- `(F(!B(), id); !A(); fail) <+ F(id, !B())`
-failed_branch_leaves_the_term : answer 0 (or_else (seq (cong 70 (to_B ∷ (id ∷ []))) (seq to_A fail)) (cong 70 (id ∷ (to_B ∷ [])))) 100 (F A A)
+failed_branch_leaves_the_term : answer 0
+    (or_else (seq (cong 70 (to_B ∷ (id ∷ []))) (seq to_A fail)) (cong 70 (id ∷ (to_B ∷ [])))) 100 (F A A)
     ≡ done (F A B) [] 89 (edit (1 ∷ []) B ∷ [])
 failed_branch_leaves_the_term = refl
 
 -- `(?x; fail) <+ !x`, `id < fail + id`
-failed_branch_leaves_the_bindings : answer 1 (or_else (seq (matches (variable 0)) fail) (builds (variable 0))) 100 A ≡ failed 95
+failed_branch_leaves_the_bindings : answer 1 (or_else (seq (matches (variable 0)) fail) (builds (variable 0))) 100 A
+    ≡ failed 95
 failed_branch_leaves_the_bindings = refl
 
 guard_fails_with_its_second : answer 0 (guard id fail id) 100 A ≡ failed 97
@@ -53,7 +56,8 @@ some_without_children : answer 0 (some id) 100 A ≡ failed 99
 some_without_children = refl
 
 -- `try(?x); !F(x,x)`
-argument_binds_for_its_caller : answer 1 (seq (call1 0 (matches (variable 0))) (builds (pattern 70 (variable 0 ∷ (variable 0 ∷ []))))) 100 A
+argument_binds_for_its_caller : answer 1
+    (seq (call1 0 (matches (variable 0))) (builds (pattern 70 (variable 0 ∷ (variable 0 ∷ []))))) 100 A
     ≡ done (F A A) (Some A ∷ []) 93 (edit [] (F A A) ∷ [])
 argument_binds_for_its_caller = refl
 
@@ -71,7 +75,8 @@ two_steps : answer 0 (seq fail id) 2 A ≡ failed 0
 two_steps = refl
 
 -- `{x,y: ?F(x,y); prim("addi",x,y)}`
-sum : answer 0 (scope 2 (seq (matches (pattern 70 (variable 0 ∷ (variable 1 ∷ [])))) (prim 0 (resolved_patterns_of (variable 0 ∷ (variable 1 ∷ [])))))) 100 (F (integer_term (pos 2)) (integer_term (pos 3)))
+sum : answer 0 (scope 2 (seq (matches (pattern 70 (variable 0 ∷ (variable 1 ∷ [])))) (prim 0
+    (resolved_patterns_of (variable 0 ∷ (variable 1 ∷ [])))))) 100 (F (integer_term (pos 2)) (integer_term (pos 3)))
     ≡ done (integer_term (pos 5)) [] 96 (edit [] (integer_term (pos 5)) ∷ [])
 sum = refl
 
@@ -89,20 +94,24 @@ more_children = refl
 annotations_not_looked_at : answer 0 (matches (pattern 65 [])) 100 A1 ≡ done A1 [] 99 []
 annotations_not_looked_at = refl
 
-annotations_differ : answer 0 (matches (annotated (pattern 65 []) (resolved_patterns_of (number (pos 2) ∷ [])))) 100 A1 ≡ failed 99
+annotations_differ : answer 0 (matches (annotated (pattern 65 []) (resolved_patterns_of (number (pos 2) ∷ [])))) 100 A1
+    ≡ failed 99
 annotations_differ = refl
 
-variable_met_again_with_annotations : answer 1 (matches (pattern 70 (variable 0 ∷ (variable 0 ∷ [])))) 100 (F A1 A) ≡ failed 99
+variable_met_again_with_annotations : answer 1 (matches (pattern 70 (variable 0 ∷ (variable 0 ∷ [])))) 100 (F A1 A)
+    ≡ failed 99
 variable_met_again_with_annotations = refl
 
-map_keeps_annotations : answer 0 (call1 2 to_B) 100 (both A) ≡ done (both B) [] 84 (edit (0 ∷ []) B ∷ (edit [] (both B) ∷ []))
+map_keeps_annotations : answer 0 (call1 2 to_B) 100 (both A)
+    ≡ done (both B) [] 84 (edit (0 ∷ []) B ∷ (edit [] (both B) ∷ []))
 map_keeps_annotations = refl
 
 rest_is_no_list : answer 0 (tail_congruence (resolveds_of (id ∷ [])) to_A) 100 (both B) ≡ failed 97
 rest_is_no_list = refl
 
 -- `rec x(G(x) <+ !B())`
-recursion : answer 0 (rec (or_else (cong 71 (param 0 ∷ [])) to_B)) 100 (G (G A)) ≡ done (G (G B)) [] 86 (edit (0 ∷ (0 ∷ [])) B ∷ [])
+recursion : answer 0 (rec (or_else (cong 71 (param 0 ∷ [])) to_B)) 100 (G (G A))
+    ≡ done (G (G B)) [] 86 (edit (0 ∷ (0 ∷ [])) B ∷ [])
 recursion = refl
 
 -- `0id`, `2(!B())`, `3id`
@@ -116,47 +125,61 @@ child_3 : answer 0 (child 3 id) 100 (F A A) ≡ failed 99
 child_3 = refl
 
 -- `?[x|y]; ![y,x|y]`
-tails : answer 2 (seq (matches (with_tail (resolved_patterns_of (variable 0 ∷ [])) (variable 1))) (builds (with_tail (resolved_patterns_of (variable 1 ∷ (variable 0 ∷ []))) (variable 1)))) 100 (both A)
-    ≡ done (list_term (list_term (A ∷ []) ∷ (A ∷ (A ∷ [])))) (Some A ∷ (Some (list_term (A ∷ [])) ∷ [])) 97 (edit [] (list_term (list_term (A ∷ []) ∷ (A ∷ (A ∷ [])))) ∷ [])
+tails : answer 2 (seq (matches (with_tail (resolved_patterns_of (variable 0 ∷ [])) (variable 1)))
+    (builds (with_tail (resolved_patterns_of (variable 1 ∷ (variable 0 ∷ []))) (variable 1)))) 100 (both A)
+    ≡ done (list_term (list_term (A ∷ []) ∷ (A ∷ (A ∷ [])))) (Some A ∷ (Some (list_term (A ∷ [])) ∷ [])) 97
+    (edit [] (list_term (list_term (A ∷ []) ∷ (A ∷ (A ∷ [])))) ∷ [])
 tails = refl
 
 -- `?[x|y]` binds y to a list without annotations, even if the list has some
-noted_list : answer 2 (seq (matches (with_tail (resolved_patterns_of (variable 0 ∷ [])) (variable 1))) (builds (variable 1))) 100 (both A)
+noted_list : answer 2
+    (seq (matches (with_tail (resolved_patterns_of (variable 0 ∷ [])) (variable 1))) (builds (variable 1))) 100 (both A)
     ≡ done (list_term (A ∷ [])) (Some A ∷ (Some (list_term (A ∷ [])) ∷ [])) 97 (edit [] (list_term (A ∷ [])) ∷ [])
 noted_list = refl
 
 -- a tail that is no list, and a pattern with more elements than the list
-tail_is_no_list : answer 1 (seq (matches (variable 0)) (builds (with_tail (resolved_patterns_of []) (variable 0)))) 100 A ≡ failed 97
+tail_is_no_list : answer 1 (seq (matches (variable 0)) (builds (with_tail (resolved_patterns_of []) (variable 0)))) 100
+    A ≡ failed 97
 tail_is_no_list = refl
 
-list_too_short : answer 1 (matches (with_tail (resolved_patterns_of (wildcard ∷ (wildcard ∷ (wildcard ∷ [])))) (variable 0))) 100 (both A) ≡ failed 99
+list_too_short : answer 1
+    (matches (with_tail (resolved_patterns_of (wildcard ∷ (wildcard ∷ (wildcard ∷ [])))) (variable 0))) 100 (both A)
+    ≡ failed 99
 list_too_short = refl
 
 -- `?x@A()`, `?x{1}`: with its annotations, and without
 named : answer 1 (matches (at 0 (pattern 65 []))) 100 A1 ≡ done A1 (Some A1 ∷ []) 99 []
 named = refl
 
-bare_binding : answer 1 (matches (annotated (variable 0) (resolved_patterns_of (number (pos 1) ∷ [])))) 100 A1 ≡ done A1 (Some A ∷ []) 99 []
+bare_binding : answer 1 (matches (annotated (variable 0) (resolved_patterns_of (number (pos 1) ∷ [])))) 100 A1
+    ≡ done A1 (Some A ∷ []) 99 []
 bare_binding = refl
 
 -- `!A(){1}` on any term, `?x; !x{}`
-built_with_annotations : answer 0 (builds (annotated (pattern 65 []) (resolved_patterns_of (number (pos 1) ∷ [])))) 100 B ≡ done A1 [] 99 (edit [] A1 ∷ [])
+built_with_annotations : answer 0 (builds (annotated (pattern 65 []) (resolved_patterns_of (number (pos 1) ∷ [])))) 100
+    B ≡ done A1 [] 99 (edit [] A1 ∷ [])
 built_with_annotations = refl
 
-built_without_annotations : answer 1 (seq (matches (variable 0)) (builds (annotated (variable 0) (resolved_patterns_of [])))) 100 A1 ≡ done A (Some A1 ∷ []) 97 (edit [] A ∷ [])
+built_without_annotations : answer 1
+    (seq (matches (variable 0)) (builds (annotated (variable 0) (resolved_patterns_of [])))) 100 A1
+    ≡ done A (Some A1 ∷ []) 97 (edit [] A ∷ [])
 built_without_annotations = refl
 
 -- a variable keeps its annotations when it is built
-binding_keeps_annotations : answer 1 (seq (matches (variable 0)) (builds (pattern 71 (variable 0 ∷ [])))) 100 A1 ≡ done (G A1) (Some A1 ∷ []) 97 (edit [] (G A1) ∷ [])
+binding_keeps_annotations : answer 1 (seq (matches (variable 0)) (builds (pattern 71 (variable 0 ∷ [])))) 100 A1
+    ≡ done (G A1) (Some A1 ∷ []) 97 (edit [] (G A1) ∷ [])
 binding_keeps_annotations = refl
 
 -- `![x|x]` keeps the annotations of an element and drops those of a tail
-tail_drops_annotations : answer 1 (seq (matches (variable 0)) (builds (with_tail (resolved_patterns_of (variable 0 ∷ [])) (variable 0)))) 100 (both A)
-    ≡ done (list_term (both A ∷ (A ∷ (A ∷ [])))) (Some (both A) ∷ []) 97 (edit [] (list_term (both A ∷ (A ∷ (A ∷ [])))) ∷ [])
+tail_drops_annotations : answer 1
+    (seq (matches (variable 0)) (builds (with_tail (resolved_patterns_of (variable 0 ∷ [])) (variable 0)))) 100 (both A)
+    ≡ done (list_term (both A ∷ (A ∷ (A ∷ [])))) (Some (both A) ∷ []) 97
+    (edit [] (list_term (both A ∷ (A ∷ (A ∷ [])))) ∷ [])
 tail_drops_annotations = refl
 
 -- `?x@A(){1}` binds x to the term with its annotations; `?A(){}` matches none
-named_with_annotations : answer 1 (matches (at 0 (annotated (pattern 65 []) (resolved_patterns_of (number (pos 1) ∷ []))))) 100 A1
+named_with_annotations : answer 1
+    (matches (at 0 (annotated (pattern 65 []) (resolved_patterns_of (number (pos 1) ∷ []))))) 100 A1
     ≡ done A1 (Some A1 ∷ []) 99 []
 named_with_annotations = refl
 
@@ -205,7 +228,8 @@ some_forgets_failed_children : answer 1 (some bound_A) 100 (F B A) ≡ done (F B
 some_forgets_failed_children = refl
 
 -- `F(?x,?x)` passes the bindings from child to child
-congruence_hands_bindings_on : answer 1 (cong 70 (matches (variable 0) ∷ (matches (variable 0) ∷ []))) 100 (F A A1) ≡ failed 97
+congruence_hands_bindings_on : answer 1 (cong 70 (matches (variable 0) ∷ (matches (variable 0) ∷ []))) 100 (F A A1)
+    ≡ failed 97
 congruence_hands_bindings_on = refl
 
 -- `all(id)` has no edits, nor has `test(all(!B()))`
@@ -217,7 +241,8 @@ test_without_edits = refl
 
 -- `test(all(!B()); ?F(x,y)); !D(x,y)`: bindings made in a test are of the changed term
 test_binds_changed_terms : answer 2 (seq (test (seq (all to_B) (matches (pattern 70 (variable 0 ∷ (variable 1 ∷ []))))))
-    (builds (pattern 68 (variable 0 ∷ (variable 1 ∷ []))))) 100 (F A A) ≡ done (D B B) (Some B ∷ (Some B ∷ [])) 92 (edit [] (D B B) ∷ [])
+    (builds (pattern 68 (variable 0 ∷ (variable 1 ∷ []))))) 100 (F A A)
+    ≡ done (D B B) (Some B ∷ (Some B ∷ [])) 92 (edit [] (D B B) ∷ [])
 test_binds_changed_terms = refl
 
 -- steps of a failed side stay used
@@ -252,27 +277,31 @@ tail_at_its_level : run_whole library 998 (body (tail_congruence (resolveds_of (
 tail_at_its_level = refl
 
 -- `wrap(|A())`, an argument that can't be built, one that doesn't fit, a definition there isn't
-term_argument : answer 0 (call 3 (resolveds_of []) (resolved_patterns_of (pattern 65 [] ∷ []))) 100 B ≡ done (G A) [] 98 (edit [] (G A) ∷ [])
+term_argument : answer 0 (call 3 (resolveds_of []) (resolved_patterns_of (pattern 65 [] ∷ []))) 100 B
+    ≡ done (G A) [] 98 (edit [] (G A) ∷ [])
 term_argument = refl
 
 argument_not_built : answer 1 (call 3 (resolveds_of []) (resolved_patterns_of (variable 0 ∷ []))) 100 B ≡ failed 99
 argument_not_built = refl
 
-argument_too_big : run_whole library 1000 (body (call 3 (resolveds_of []) (resolved_patterns_of (pattern 65 [] ∷ [])))) 100 B ≡ stopped big
+argument_too_big : run_whole library 1000
+    (body (call 3 (resolveds_of []) (resolved_patterns_of (pattern 65 [] ∷ [])))) 100 B ≡ stopped big
 argument_too_big = refl
 
 no_such_definition : answer 0 (call0 9) 100 B ≡ failed 99
 no_such_definition = refl
 
 -- `prim("gti",2,1)` at level 999: the answer doesn't fit
-answer_too_big : run_whole library 999 (body (prim 4 (resolved_patterns_of (number (pos 2) ∷ (number (pos 1) ∷ []))))) 100 B ≡ stopped big
+answer_too_big : run_whole library 999
+    (body (prim 4 (resolved_patterns_of (number (pos 2) ∷ (number (pos 1) ∷ []))))) 100 B ≡ stopped big
 answer_too_big = refl
 
 no_answer : answer 0 (prim 4 (resolved_patterns_of (number (pos 1) ∷ (number (pos 1) ∷ [])))) 100 B ≡ failed 99
 no_answer = refl
 
 -- a scope's variable is new inside and gone afterwards
-scope_is_left : answer 1 (seq (scope 1 (matches (variable 1))) (matches (variable 0))) 100 A ≡ done A (Some A ∷ []) 96 []
+scope_is_left : answer 1 (seq (scope 1 (matches (variable 1))) (matches (variable 0))) 100 A
+    ≡ done A (Some A ∷ []) 96 []
 scope_is_left = refl
 
 -- `{y: ?y}; !B(); ?x`: the binding of y doesn't affect x
@@ -287,7 +316,9 @@ other_number_of_children = refl
 other_head : answer 0 (congruence list (resolveds_of (id ∷ (id ∷ [])))) 100 (F A A) ≡ failed 99
 other_head = refl
 
-quoted_name : answer 0 (matches (compound (application (record { text = 65 ∷ []; is_quoted = true })) (resolved_patterns_of []))) 100 A ≡ failed 99
+quoted_name : answer 0
+    (matches (compound (application (record { text = 65 ∷ []; is_quoted = true })) (resolved_patterns_of []))) 100 A
+    ≡ failed 99
 quoted_name = refl
 
 -- `[id|?x]` binds x to the list of the rest, which has no annotations
@@ -300,7 +331,8 @@ abbrev three : Tree
 three = with_annotations (list_term (B ∷ (B ∷ (B ∷ [])))) (integer_term (pos 1) ∷ [])
 
 rest_is_replaced : answer 0 (tail_congruence (resolveds_of (to_B ∷ []))
-    (builds (annotated (compound list (resolved_patterns_of (pattern 66 [] ∷ (pattern 66 [] ∷ [])))) (resolved_patterns_of (number (pos 2) ∷ []))))) 100 (both A)
+    (builds (annotated (compound list (resolved_patterns_of (pattern 66 [] ∷ (pattern 66 [] ∷ []))))
+    (resolved_patterns_of (number (pos 2) ∷ []))))) 100 (both A)
     ≡ done three [] 97 (edit (0 ∷ []) B ∷ (edit [] three ∷ []))
 rest_is_replaced = refl
 
@@ -309,7 +341,8 @@ child_1 : answer 0 (child 1 to_B) 100 (both A) ≡ done (both_with B A) [] 98 (e
 child_1 = refl
 
 -- the term parameter of a definition is not its caller's variable
-own_parameter : answer 1 (seq (matches (variable 0)) (call 3 (resolveds_of []) (resolved_patterns_of (pattern 66 [] ∷ [])))) 100 A
+own_parameter : answer 1
+    (seq (matches (variable 0)) (call 3 (resolveds_of []) (resolved_patterns_of (pattern 66 [] ∷ [])))) 100 A
     ≡ done (G B) (Some A ∷ []) 96 (edit [] (G B) ∷ [])
 own_parameter = refl
 
@@ -328,7 +361,8 @@ idle = record {
 }
 
 -- an argument is tested even if nothing is built from it
-idle_argument_too_big : run_whole idle 1000 (body (call 0 (resolveds_of []) (resolved_patterns_of (pattern 65 [] ∷ [])))) 100 B
+idle_argument_too_big : run_whole idle 1000
+    (body (call 0 (resolveds_of []) (resolved_patterns_of (pattern 65 [] ∷ [])))) 100 B
     ≡ stopped big
 idle_argument_too_big = refl
 
@@ -336,7 +370,8 @@ idle_argument_too_big = refl
 no_room : run_whole (in_room 1 library) 0 (body (builds (pattern 71 (pattern 65 [] ∷ [])))) 1 B ≡ stopped big
 no_room = refl
 
-room_enough : run_whole (in_room 2 library) 0 (body (builds (pattern 71 (pattern 65 [] ∷ [])))) 1 B ≡ done (G A) [] 0 (edit [] (G A) ∷ [])
+room_enough : run_whole (in_room 2 library) 0 (body (builds (pattern 71 (pattern 65 [] ∷ [])))) 1 B
+    ≡ done (G A) [] 0 (edit [] (G A) ∷ [])
 room_enough = refl
 
 -- a primitive takes exactly its number of terms

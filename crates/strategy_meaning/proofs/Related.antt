@@ -27,7 +27,8 @@ pub record IsRoomier (P : Answer → Type 0) (room more : ℕ) : Type 0 where
   pub fit : (l : ℕ) (u : Tree) → fits room l u ≡ true → fits more l u ≡ true
   pub over : (l : ℕ) (u : Tree) (a : Answer) → fits room l u ≡ false → P (cond (fits more l u) a (stopped big))
 
-module _ (S : ℕ → ℕ → Type 0) (Q P : Answer → Type 0) (keeps : Keeps Q) (keeps_big : Keeps P) (room more : ℕ) (roomier : IsRoomier P room more) where
+module _ (S : ℕ → ℕ → Type 0) (Q P : Answer → Type 0) (keeps : Keeps Q) (keeps_big : Keeps P) (room more : ℕ)
+    (roomier : IsRoomier P room more) where
   abbrev R : Answer → Answer → Type 0
   R a a' = Related S Q P a a'
 
@@ -52,7 +53,8 @@ module _ (S : ℕ → ℕ → Type 0) (Q P : Answer → Type 0) (keeps : Keeps Q
   done-related t B b c e h = (c, refl, h)
 
   if_done-related : (a a' : Answer) (go go' : Tree → Bindings → ℕ → Edits → Answer) → R a a'
-      → ((t : Tree) (B : Bindings) (b c : ℕ) (e : Edits) → S b c → R (go t B b e) (go' t B c e)) → R (if_done a go) (if_done a' go')
+      → ((t : Tree) (B : Bindings) (b c : ℕ) (e : Edits) → S b c → R (go t B b e) (go' t B c e))
+      → R (if_done a go) (if_done a' go')
   if_done-related a a' go go' h hgo = either-related a a' go go' failed failed h hgo failed-related
 
   edits-related : (e : Edits) (a a' : Answer) → R a a' → R (with_edits e a) (with_edits e a')
@@ -62,15 +64,18 @@ module _ (S : ℕ → ℕ → Type 0) (Q P : Answer → Type 0) (keeps : Keeps Q
   and_then-related a a' f g h k =
       if_done-related a a' _ _ h (λ t B b c e s. edits-related e (f b B t) (g c B t) (k b c B t s))
 
-  some-related : {A : Type 0} (o : Option A) (b c : ℕ) (go go' : A → Answer) → S b c → ((x : A) → R (go x) (go' x)) → R (with_some o b go) (with_some o c go')
+  some-related : {A : Type 0} (o : Option A) (b c : ℕ) (go go' : A → Answer) → S b c → ((x : A) → R (go x) (go' x))
+      → R (with_some o b go) (with_some o c go')
   some-related None b c go go' s h = (c, refl, s)
   some-related (Some x) b c go go' s h = h x
 
   one-related : (f g : Act) (i : ℕ) → ActsAlike f g → ActsAlike (on_child f i) (on_child g i)
   one-related f g i h b c B t s =
-      some-related (slice_get (children t) i) b c _ _ s (λ u. if_done-related (f b B u) (g c B u) _ _ (h b c B u s) (λ v B1 b1 c1 e s1. (c1, refl, s1)))
+      some-related (slice_get (children t) i) b c _ _ s
+      (λ u. if_done-related (f b B u) (g c B u) _ _ (h b c B u s) (λ v B1 b1 c1 e s1. (c1, refl, s1)))
 
-  each-related : (f g : ResolvedStrategy → Act) (ss : List ResolvedStrategy) (i : ℕ) → ((s : ResolvedStrategy) → ActsAlike (f s) (g s)) → ActsAlike (each f ss i) (each g ss i)
+  each-related : (f g : ResolvedStrategy → Act) (ss : List ResolvedStrategy) (i : ℕ)
+      → ((s : ResolvedStrategy) → ActsAlike (f s) (g s)) → ActsAlike (each f ss i) (each g ss i)
   each-related f g [] i h b c B t s = (c, refl, s)
   each-related f g (x ∷ ss) i h b c B t s =
       and_then-related (on_child (f x) i b B t) (on_child (g x) i c B t) _ _ (one-related (f x) (g x) i (h x) b c B t s)
@@ -82,7 +87,8 @@ module _ (S : ℕ → ℕ → Type 0) (Q P : Answer → Type 0) (keeps : Keeps Q
       either-related (on_child f i b B t) (on_child g i c B t) _ _ _ _ (one-related f g i h b c B t s) done-related
       (λ b1 c1 s1. leftmost-related f g n (i + 1) h b1 c1 B t s1)
 
-  those-related : (f g : Act) (n : ℕ) (any : Bool) (i : ℕ) → ActsAlike f g → ActsAlike (those_done f n any i) (those_done g n any i)
+  those-related : (f g : Act) (n : ℕ) (any : Bool) (i : ℕ) → ActsAlike f g
+      → ActsAlike (those_done f n any i) (those_done g n any i)
   those-related f g zero true i h b c B t s = (c, refl, s)
   those-related f g zero false i h b c B t s = (c, refl, s)
   those-related f g (suc n) any i h b c B t s =
@@ -104,23 +110,28 @@ module _ (S : ℕ → ℕ → Type 0) (Q P : Answer → Type 0) (keeps : Keeps Q
   if-related true a a' b c h s = h
   if-related false a a' b c h s = (c, refl, s)
 
-  built-related : (o : Option Tree) (l b c : ℕ) (go go' : Tree → Answer) → S b c → ((u : Tree) → R (go u) (go' u)) → R (built room o l b go) (built more o l c go')
+  built-related : (o : Option Tree) (l b c : ℕ) (go go' : Tree → Answer) → S b c → ((u : Tree) → R (go u) (go' u))
+      → R (built room o l b go) (built more o l c go')
   built-related o l b c go go' s h = some-related o b c _ _ s (λ u. by u (fits room l u) refl) where
-    by : (u : Tree) (v : Bool) → fits room l u ≡ v → R (cond v (go u) (stopped big)) (cond (fits more l u) (go' u) (stopped big))
+    by : (u : Tree) (v : Bool)
+        → fits room l u ≡ v → R (cond v (go u) (stopped big)) (cond (fits more l u) (go' u) (stopped big))
     by u true is = rw (roomier.fit l u is) (h u)
     by u false is = roomier.over l u (go' u) is
 
-  built_all-related : (ps : ResolvedPatterns) (E : List ℕ) (B : Bindings) (l b c : ℕ) (go go' : List Tree → Answer) → S b c
+  built_all-related : (ps : ResolvedPatterns) (E : List ℕ) (B : Bindings) (l b c : ℕ)
+      (go go' : List Tree → Answer) → S b c
       → ((us : List Tree) → R (go us) (go' us)) → R (built_all room ps E B l b go) (built_all more ps E B l c go')
   built_all-related no_resolved_patterns E B l b c go go' s h = h []
   built_all-related (and_resolved_pattern p ps) E B l b c go go' s h =
       built-related (build_pattern p E B) l b c _ _ s (λ u. built_all-related ps E B l b c _ _ s (λ us. h (u ∷ us)))
 
-  opened-related : (part other : Evaluation) (E : Scope) (new : Bindings) (l : ℕ) (x : ResolvedStrategy) → Alike part other → ActsAlike (opened part E new l x) (opened other E new l x)
+  opened-related : (part other : Evaluation) (E : Scope) (new : Bindings) (l : ℕ) (x : ResolvedStrategy)
+      → Alike part other → ActsAlike (opened part E new l x) (opened other E new l x)
   opened-related part other E new l x h b c B t s =
       if_done-related _ _ _ _ (h E l x b c (B ++ new) t s) (λ t1 B1 b1 c1 e s1. (c1, refl, s1))
 
-  pub form-related : (W : World) (part other : Evaluation) → Alike part other → Alike (form (in_room room W) part) (form (in_room more W) other)
+  pub form-related : (W : World) (part other : Evaluation) → Alike part other
+      → Alike (form (in_room room W) part) (form (in_room more W) other)
   form-related W part other h E l id b c B t s = (c, refl, s)
   form-related W part other h E l fail b c B t s = (c, refl, s)
   form-related W part other h E l (matches p) b c B t s =
@@ -130,7 +141,8 @@ module _ (S : ℕ → ℕ → Type 0) (Q P : Answer → Type 0) (keeps : Keeps Q
   form-related W part other h E l (seq s1 s2) b c B t s =
       and_then-related _ _ _ _ (h E l s1 b c B t s) (h E l s2)
   form-related W part other h E l (guard s1 s2 s3) b c B t s =
-      either-related _ _ _ _ _ _ (h E l s1 b c B t s) (λ t1 B1 b1 c1 e s'. edits-related e _ _ (h E l s2 b1 c1 B1 t1 s'))
+      either-related _ _ _ _ _ _ (h E l s1 b c B t s)
+      (λ t1 B1 b1 c1 e s'. edits-related e _ _ (h E l s2 b1 c1 B1 t1 s'))
       (λ b1 c1 s'. h E l s3 b1 c1 B t s')
   form-related W part other h E l (test s1) b c B t s =
       if_done-related _ _ _ _ (h E l s1 b c B t s) (λ t1 B1 b1 c1 e s'. (c1, refl, s'))
@@ -142,7 +154,8 @@ module _ (S : ℕ → ℕ → Type 0) (Q P : Answer → Type 0) (keeps : Keeps Q
       built_all-related ps (cells_in E) B l b c _ _ s (λ us. some-related (slice_get W.bodies f) b c _ _ s
       (λ d. opened-related part other _ (map Some us ++ replicate d.variables None) l d.strategy h b c B t s))
   form-related W part other h E l (congruence k ss) b c B t s =
-      if-related (is_over k (length (resolved_list ss)) t) _ _ b c (each-related _ _ (resolved_list ss) 0 (h E (l + 1)) b c B t s) s
+      if-related (is_over k (length (resolved_list ss)) t) _ _ b c
+      (each-related _ _ (resolved_list ss) 0 (h E (l + 1)) b c B t s) s
   form-related W part other h E l (tail_congruence ss s1) b c B t s =
       if-related (is_list_from (length (resolved_list ss)) (elements t)) _ _ b c
       (and_then-related _ _ _ _ (each-related _ _ (resolved_list ss) 0 (h E (l + 1)) b c B t s)

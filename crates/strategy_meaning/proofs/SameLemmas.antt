@@ -59,7 +59,8 @@ mutual
   tree-self : (t : Tree) → same_tree t t ≡ true
   tree-self (integer z ns) = both _ (same_trees ns ns) ((Decides-int_eq z z).1 refl) (trees-self ns)
   tree-self (branch h us ns) =
-      both (same_head h h) (same_trees us us && same_trees ns ns) (head-self h) (both (same_trees us us) (same_trees ns ns) (trees-self us) (trees-self ns))
+      both (same_head h h) (same_trees us us && same_trees ns ns) (head-self h)
+      (both (same_trees us us) (same_trees ns ns) (trees-self us) (trees-self ns))
 
   trees-self : (ts : Trees) → same_trees ts ts ≡ true
   trees-self none = refl

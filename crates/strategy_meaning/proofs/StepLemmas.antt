@@ -29,13 +29,15 @@ big-kept a go back e = rw e refl
 itself : (room : ℕ) → IsRoomier Big room room
 itself room = record { fit = λ l u is. is; over = λ l u a is. rw is refl }
 
-bounded-more : (W : World) (k n m : ℕ) → n ≤ m → Alike (After k) Anything Big (λ a g h q. tt) big-kept W.room W.room (itself W.room) (run_bounded W n) (run_bounded W m)
+bounded-more : (W : World) (k n m : ℕ) → n ≤ m → Alike (After k) Anything Big (λ a g h q. tt) big-kept W.room W.room
+    (itself W.room) (run_bounded W n) (run_bounded W m)
 bounded-more W k zero m h E l s b c B t e = tt
 bounded-more W k (suc n) zero h E l s b c B t e = absurd (omega (arith, h))
 bounded-more W k (suc n) (suc m) h E l s zero c B t e = tt
 bounded-more W k (suc n) (suc m) h E l s (suc b) zero B t e = absurd (omega (arith, e))
 bounded-more W k (suc n) (suc m) h E l s (suc b) (suc c) B t e =
-    form-related (After k) Anything Big (λ a g h q. tt) big-kept W.room W.room (itself W.room) W (run_bounded W n) (run_bounded W m) (bounded-more W k n m (omega (arith, h))) E l s b c B t (omega (arith, e))
+    form-related (After k) Anything Big (λ a g h q. tt) big-kept W.room W.room (itself W.room) W (run_bounded W n)
+    (run_bounded W m) (bounded-more W k n m (omega (arith, h))) E l s b c B t (omega (arith, e))
 
 later_related : (k : ℕ) (a a' : Answer) → Related (After k) Anything Big a a' → a ≢ stopped spent → a' ≡ later k a
 later_related k (done t B b e) a' h n = h.1 ∙ ap (λ x. done t B x e) h.2
@@ -45,7 +47,8 @@ later_related k (stopped big) a' h n = h
 
 pub more_steps_give_the_same : MoreStepsGiveTheSame
 more_steps_give_the_same W E l s b B t k n =
-    later_related k (run W E l s b B t) (run W E l s (b + k) B t) (bounded-more W k b (b + k) (omega arith) E l s b (b + k) B t refl) n
+    later_related k (run W E l s b B t) (run W E l s (b + k) B t)
+    (bounded-more W k b (b + k) (omega arith) E l s b (b + k) B t refl) n
 
 -- ---- enough steps
 
@@ -65,7 +68,8 @@ weaker d e (failed b) a' le h = (h.0, h.1, (h.2.0, omega (arith, le, h.2.1)))
 weaker d e (stopped spent) a' le h = h
 weaker d e (stopped big) a' le h = h
 
-bounded-enough : (W : World) (n m : ℕ) (E : Scope) (l : ℕ) (s : ResolvedStrategy) (b c : ℕ) (B : Bindings) (t : Tree) → b ≤ n → b ≤ m → c ≡ b
+bounded-enough : (W : World) (n m : ℕ) (E : Scope) (l : ℕ) (s : ResolvedStrategy) (b c : ℕ) (B : Bindings) (t : Tree)
+    → b ≤ n → b ≤ m → c ≡ b
     → Related (Same b) Spent Big (run_bounded W n E l s b B t) (run_bounded W m E l s c B t)
 bounded-enough W zero m E l s (suc b) c B t h k e = absurd (omega (arith, h))
 bounded-enough W (suc n) zero E l s (suc b) c B t h k e = absurd (omega (arith, k))
@@ -75,8 +79,10 @@ bounded-enough W (suc n) zero E l s zero c B t h k e = refl
 bounded-enough W (suc n) (suc m) E l s zero c B t h k e = rw e refl
 bounded-enough W (suc n) (suc m) E l s (suc b) zero B t h k e = absurd (omega (arith, e))
 bounded-enough W (suc n) (suc m) E l s (suc b) (suc c) B t h k e =
-    weaker b (suc b) _ _ (omega arith) (form-related (Same b) Spent Big spent-kept big-kept W.room W.room (itself W.room) W (run_bounded W n) (run_bounded W m)
-    (λ F r q x y C u s'. weaker x b _ _ s'.1 (bounded-enough W n m F r q x y C u (omega (arith, h, s'.1)) (omega (arith, k, s'.1)) s'.0))
+    weaker b (suc b) _ _ (omega arith) (form-related (Same b) Spent Big spent-kept big-kept W.room W.room
+    (itself W.room) W (run_bounded W n) (run_bounded W m)
+    (λ F r q x y C u s'.
+    weaker x b _ _ s'.1 (bounded-enough W n m F r q x y C u (omega (arith, h, s'.1)) (omega (arith, k, s'.1)) s'.0))
     E l s b c B t (omega (arith, e), omega arith))
 
 same_related : (d : ℕ) (a a' : Answer) → Related (Same d) Spent Big a a' → a ≡ a'
@@ -104,13 +110,15 @@ roomier : (room more : ℕ) → room ≤ more → IsRoomier Anything room more
 roomier room more h = record { fit = λ l u is. fits-more room more l u h is; over = λ l u a is. tt }
 
 bounded-roomier : (W : World) (room more : ℕ) (le : room ≤ more) (n : ℕ)
-    → Alike Equal Spent Anything spent-kept (λ a g h q. tt) room more (roomier room more le) (run_bounded (in_room room W) n) (run_bounded (in_room more W) n)
+    → Alike Equal Spent Anything spent-kept (λ a g h q. tt) room more (roomier room more le)
+    (run_bounded (in_room room W) n) (run_bounded (in_room more W) n)
 bounded-roomier W room more le zero E l s b c B t e = refl
 bounded-roomier W room more le (suc n) E l s zero zero B t e = refl
 bounded-roomier W room more le (suc n) E l s zero (suc c) B t e = absurd (omega (arith, e))
 bounded-roomier W room more le (suc n) E l s (suc b) zero B t e = absurd (omega (arith, e))
 bounded-roomier W room more le (suc n) E l s (suc b) (suc c) B t e =
-    form-related Equal Spent Anything spent-kept (λ a g h q. tt) room more (roomier room more le) W (run_bounded (in_room room W) n) (run_bounded (in_room more W) n)
+    form-related Equal Spent Anything spent-kept (λ a g h q. tt) room more (roomier room more le) W
+    (run_bounded (in_room room W) n) (run_bounded (in_room more W) n)
     (bounded-roomier W room more le n) E l s b c B t (omega (arith, e))
 
 roomier_related : (a a' : Answer) → Related Equal Spent Anything a a' → a ≢ stopped big → a' ≡ a

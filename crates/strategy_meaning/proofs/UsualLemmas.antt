@@ -48,7 +48,8 @@ choice_goes_on W E l s1 s2 s3 b c B t is =
 -- ---- what holds of an answer with one more step
 
 -- if there is a step; without one it is spent
-from_form : (P : Tree → Bindings → ℕ → Edits → Type 0) (W : World) (E : Scope) (l : ℕ) (s : ResolvedStrategy) (b : ℕ) (B : Bindings) (t : Tree)
+from_form : (P : Tree → Bindings → ℕ → Edits → Type 0) (W : World) (E : Scope) (l : ℕ) (s : ResolvedStrategy) (b : ℕ)
+    (B : Bindings) (t : Tree)
     → ((c : ℕ) → IfDone (form W (run W) E l s c B t) P) → IfDone (run W E l s b B t) P
 from_form P W E l s zero B t h = tt
 from_form P W E l s (suc c) B t h = subst (λ a. IfDone a P) (sym (one_step_is_one_form W E l s c B t)) (h c)
@@ -88,19 +89,22 @@ other-kept t u (done v B b e) is h = h ∙ is
 other-kept t u (failed b) is h = tt
 other-kept t u (stopped why) is h = tt
 
-child-kept : (t : Tree) (i : ℕ) (a : Answer) (f : Edits → Edits) → Kept t (if_done a (λ v B b e. done (with_child t i v) B b (f e)))
+child-kept : (t : Tree) (i : ℕ) (a : Answer) (f : Edits → Edits) → Kept t
+    (if_done a (λ v B b e. done (with_child t i v) B b (f e)))
 child-kept t i (done v B b e) f = with_children-annotations t _
 child-kept t i (failed b) f = tt
 child-kept t i (stopped why) f = tt
 
 one-kept : (act : Act) (i c : ℕ) (B : Bindings) (t : Tree) → Kept t (on_child act i c B t)
 one-kept act i c B t =
-    elim (slice_get (children t) i) as (λ o. Kept t (with_some o c (λ u. if_done (act c B u) (λ v B1 b e. done (with_child t i v) B1 b (prefixed (i ∷ []) e))))) [
+    elim (slice_get (children t) i) as (λ o. Kept t
+    (with_some o c (λ u. if_done (act c B u) (λ v B1 b e. done (with_child t i v) B1 b (prefixed (i ∷ []) e))))) [
       | None ↦ tt
       | Some u ↦ child-kept t i (act c B u) (prefixed (i ∷ []))
     ]
 
-each-kept : (act : ResolvedStrategy → Act) (ss : List ResolvedStrategy) (i c : ℕ) (B : Bindings) (t : Tree) → Kept t (each act ss i c B t)
+each-kept : (act : ResolvedStrategy → Act) (ss : List ResolvedStrategy) (i c : ℕ) (B : Bindings) (t : Tree)
+    → Kept t (each act ss i c B t)
 each-kept act [] i c B t = refl
 each-kept act (s ∷ ss) i c B t =
     either-kept t (on_child (act s) i c B t) _ _ (one-kept (act s) i c B t)
@@ -112,7 +116,8 @@ leftmost-kept act (suc n) i c B t =
     either-kept t (on_child act i c B t) _ _ (one-kept act i c B t) (λ u B1 b e is. is)
     (λ b. leftmost-kept act n (i + 1) b B t)
 
-those-kept : (act : Act) (n : ℕ) (any : Bool) (i c : ℕ) (B : Bindings) (t : Tree) → Kept t (those_done act n any i c B t)
+those-kept : (act : Act) (n : ℕ) (any : Bool) (i c : ℕ) (B : Bindings) (t : Tree)
+    → Kept t (those_done act n any i c B t)
 those-kept act zero true i c B t = refl
 those-kept act zero false i c B t = tt
 those-kept act (suc n) any i c B t =
@@ -124,13 +129,15 @@ number-kept : (act : Act) (n c : ℕ) (B : Bindings) (t : Tree) → Kept t (on_c
 number-kept act zero c B t = tt
 number-kept act (suc i) c B t = one-kept act i c B t
 
-some-kept : (t : Tree) (o : Option (List Tree)) (c : ℕ) (B : Bindings) (n : ℕ) → Kept t (with_some o c (λ us. done (with_rest n t us) B c (at_root (with_rest n t us))))
+some-kept : (t : Tree) (o : Option (List Tree)) (c : ℕ) (B : Bindings) (n : ℕ)
+    → Kept t (with_some o c (λ us. done (with_rest n t us) B c (at_root (with_rest n t us))))
 some-kept t None c B n = tt
 some-kept t (Some us) c B n = with_children-annotations t _
 
 rest-kept : (act : Act) (n c : ℕ) (B : Bindings) (t : Tree) → Kept t (on_rest act n c B t)
 rest-kept act n c B t = by (act c B (rest_of n t)) where
-  by : (a : Answer) → Kept t (if_done a (λ u B1 b e. with_some (elements u) b (λ us. done (with_rest n t us) B1 b (at_root (with_rest n t us)))))
+  by : (a : Answer) → Kept t (if_done a
+      (λ u B1 b e. with_some (elements u) b (λ us. done (with_rest n t us) B1 b (at_root (with_rest n t us)))))
   by (done u B1 b e) = some-kept t (elements u) b B1 n
   by (failed b) = tt
   by (stopped why) = tt
@@ -145,7 +152,8 @@ traversals_keep_annotations W h ss s n = (
       (λ c. where_it_holds t _ _ c (each-kept _ (resolved_list ss) 0 c B t)),
   λ E l b B t. from_form _ W E l (tail_congruence ss s) b B t
       (λ c. where_it_holds t _ _ c (either-kept t _ _ _ (each-kept _ (resolved_list ss) 0 c B t)
-      (λ u B1 b1 e is. edits-kept t e _ (other-kept t u _ is (rest-kept (run W E l s) (length (resolved_list ss)) b1 B1 u))) (λ b1. tt))),
+      (λ u B1 b1 e is. edits-kept t e _
+      (other-kept t u _ is (rest-kept (run W E l s) (length (resolved_list ss)) b1 B1 u))) (λ b1. tt))),
   λ E l b B t. from_form _ W E l (all s) b B t (λ c. each-kept _ (replicate (length (children t)) s) 0 c B t),
   λ E l b B t. from_form _ W E l (one s) b B t (λ c. leftmost-kept _ (length (children t)) 0 c B t),
   λ E l b B t. from_form _ W E l (some s) b B t (λ c. those-kept _ (length (children t)) false 0 c B t),

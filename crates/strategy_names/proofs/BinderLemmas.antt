@@ -15,12 +15,14 @@ use Rattle.strategy_names.specs.inside.BinderView.{Numbers, number_in, binder_of
 pub binders_of-last : (es : List OpenBinder) (e : OpenBinder) → binders_of (es ++ e ∷ []) ≡ binder_of e ∷ binders_of es
 binders_of-last es e = ap (map binder_of) (reverse-append es (e ∷ []))
 
-flatten-cond : (b : Bool) (o : Option (Option ℕ)) (v : Option ℕ) → option_flatten (cond b (Some v) o) ≡ (if b then v else option_flatten o)
+flatten-cond : (b : Bool) (o : Option (Option ℕ)) (v : Option ℕ)
+    → option_flatten (cond b (Some v) o) ≡ (if b then v else option_flatten o)
 flatten-cond true o v = refl
 flatten-cond false o v = refl
 
 module _ (m n : Numbers) (es : List OpenBinder) (e : OpenBinder) (k : Symbol) where
-  pub opened : IsKept m es → ((q : Symbol) → get same_name n q ≡ cond (same_name k q) (Some (Some e.number)) (get same_name m q))
+  pub opened : IsKept m es
+      → ((q : Symbol) → get same_name n q ≡ cond (same_name k q) (Some (Some e.number)) (get same_name m q))
       → e.name ≡ k → e.hidden ≡ option_flatten (get same_name m k) → IsKept n (es ++ e ∷ [])
   opened kept updates named hides = record {
     numbers = λ f.
@@ -34,7 +36,8 @@ module _ (m n : Numbers) (es : List OpenBinder) (e : OpenBinder) (k : Symbol) wh
     );
   }
 
-  pub closed : IsKept m (es ++ e ∷ []) → ((q : Symbol) → get same_name n q ≡ cond (same_name k q) (Some e.hidden) (get same_name m q))
+  pub closed : IsKept m
+      (es ++ e ∷ []) → ((q : Symbol) → get same_name n q ≡ cond (same_name k q) (Some e.hidden) (get same_name m q))
       → k ≡ e.name → IsKept n es
   closed kept updates named = record {
     numbers = λ f.
@@ -46,10 +49,12 @@ module _ (m n : Numbers) (es : List OpenBinder) (e : OpenBinder) (k : Symbol) wh
     hides : (e.hidden ≡ binder_number e.name (binders_of es)) × Hides (reverse es)
     hides = subst Hides (reverse-append es (e ∷ [])) kept.hidden
 
-    inside : (f : Symbol) → number_in m f ≡ (if same_name e.name f then Some e.number else binder_number f (binders_of es))
+    inside : (f : Symbol)
+        → number_in m f ≡ (if same_name e.name f then Some e.number else binder_number f (binders_of es))
     inside f = kept.numbers f ∙ ap (binder_number f) (binders_of-last es e)
 
-    by : (f : Symbol) (b : Bool) → same_name e.name f ≡ b → (if b then e.hidden else number_in m f) ≡ binder_number f (binders_of es)
+    by : (f : Symbol) (b : Bool)
+        → same_name e.name f ≡ b → (if b then e.hidden else number_in m f) ≡ binder_number f (binders_of es)
     by f true t = hides.0 ∙ ap (λ x. binder_number x (binders_of es)) (same_name-true e.name f t)
     by f false t = inside f ∙ ap (λ b. if b then Some e.number else binder_number f (binders_of es)) t
 
@@ -61,7 +66,8 @@ slice_get-last (y ∷ xs) x = slice_get-last xs x
 last_place : {X : Type 0} (xs : List X) (x : X) → length (xs ++ x ∷ []) - 1 ≡ length xs
 last_place xs x = rw (length-append xs (x ∷ [])) (omega arith)
 
-pub last_is : (es fs : List OpenBinder) (o : Option OpenBinder) (x : OpenBinder) → es ≡ fs ++ option_to_list o → (IsSome o ↔ (0 < length es))
+pub last_is : (es fs : List OpenBinder) (o : Option OpenBinder) (x : OpenBinder) → es ≡ fs ++ option_to_list o
+    → (IsSome o ↔ (0 < length es))
     → Some x ≡ slice_get es (length es - 1) → es ≡ fs ++ x ∷ []
 last_is es fs None x e some at = absurd (empty es some.1 at)
   where
@@ -93,7 +99,8 @@ plus-suc a b = omega arith
 plus-zero : (a : ℕ) → a + 0 ≡ a
 plus-zero a = omega arith
 
-drop-within : (n : ℕ) (xs : List Symbol) (bs : List Binder) (i : ℕ) → drop (length xs + i) (bound_from n xs bs) ≡ drop i bs
+drop-within : (n : ℕ) (xs : List Symbol) (bs : List Binder) (i : ℕ)
+    → drop (length xs + i) (bound_from n xs bs) ≡ drop i bs
 drop-within n [] bs i = ap (λ k. drop k bs) (omega arith)
 drop-within n (x ∷ xs) bs i =
     ap (λ k. drop k (bound_from (n + 1) xs (record { name = x; number = n } ∷ bs))) (suc-plus (length xs) i)
@@ -103,7 +110,8 @@ drop-within n (x ∷ xs) bs i =
 pub drop-bound_from : (n : ℕ) (xs : List Symbol) (bs : List Binder) → drop (length xs) (bound_from n xs bs) ≡ bs
 drop-bound_from n xs bs = ap (λ k. drop k (bound_from n xs bs)) (sym (plus-zero (length xs))) ∙ drop-within n xs bs 0
 
-pub length-bound_from : (n : ℕ) (xs : List Symbol) (bs : List Binder) → length (bound_from n xs bs) ≡ length xs + length bs
+pub length-bound_from : (n : ℕ) (xs : List Symbol) (bs : List Binder)
+    → length (bound_from n xs bs) ≡ length xs + length bs
 length-bound_from n [] bs = omega arith
 length-bound_from n (x ∷ xs) bs = length-bound_from (n + 1) xs (record { name = x; number = n } ∷ bs) ∙ omega arith
 
@@ -121,7 +129,8 @@ bound_count n xs = length-bound_from n xs [] ∙ plus-zero (length xs)
 
 stored_names : (es : List OpenBinder) → names_of (map binder_of (reverse es)) ≡ map (λ e. e.name) es
 stored_names es = by es [] where
-  by : (es fs : List OpenBinder) → names_of (map binder_of (reverse_aux es fs)) ≡ names_of (map binder_of fs) ++ map (λ e. e.name) es
+  by : (es fs : List OpenBinder)
+      → names_of (map binder_of (reverse_aux es fs)) ≡ names_of (map binder_of fs) ++ map (λ e. e.name) es
   by [] fs = sym (append-nil (names_of (map binder_of fs)))
   by (e ∷ es) fs = by es (e ∷ fs) ∙ append_assoc (names_of (map binder_of fs)) (e.name ∷ []) (map (λ e. e.name) es)
 
@@ -131,7 +140,9 @@ names_all es ns e = e ∙ sym (stored_names es)
 
 pub bound_names : (n : ℕ) (xs : List Symbol) (bs : List Binder) → names_of (bound_from n xs bs) ≡ names_of bs ++ xs
 bound_names n [] bs = sym (append-nil (names_of bs))
-bound_names n (x ∷ xs) bs = bound_names (n + 1) xs (record { name = x; number = n } ∷ bs) ∙ append_assoc (names_of bs) (x ∷ []) xs
+bound_names n (x ∷ xs) bs =
+    bound_names (n + 1) xs (record { name = x; number = n } ∷ bs) ∙ append_assoc (names_of bs) (x ∷ []) xs
 
-pub names_found : (names xs : List Symbol) (found : List Binder) → names ≡ names_of found → found ≡ bound_from 0 xs [] → names ≡ xs
+pub names_found : (names xs : List Symbol) (found : List Binder) → names ≡ names_of found → found ≡ bound_from 0 xs []
+    → names ≡ xs
 names_found names xs found e is = e ∙ ap names_of is ∙ bound_names 0 xs []

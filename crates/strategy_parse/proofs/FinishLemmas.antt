@@ -37,7 +37,8 @@ Ends f = (c : List Token) × (r : Strategy) × Accepts f c r
 lifted : (f g : Token → Next) → ((y : List Token) (r : Strategy) → Accepts f y r → Accepts g y r) → Ends f → Ends g
 lifted f g h e = (e.0, e.1, h e.0 e.1 e.2)
 
-by_token : (t : Token) (f : Token → Next) (q : ParserState) (S : List ParserFrame) → f t ≡ goes q S → Ends (step q S) → Ends f
+by_token : (t : Token) (f : Token → Next) (q : ParserState) (S : List ParserFrame) → f t ≡ goes q S
+    → Ends (step q S) → Ends f
 by_token t f q S e more = (t ∷ more.0, more.1, ap (go_on (λ p R. resume (step p R) more.0)) e ∙ more.2)
 
 -- what is to be shown of the open forms below
@@ -58,31 +59,39 @@ seq_ends S s e = lifted (after_choice s S) (after_seq s S) (λ y r k. choice_in 
 base_ends : (S : List ParserFrame) (p : Pattern) → Ends (after_pattern p S) → Ends (after_base p S)
 base_ends S p e = lifted (after_pattern p S) (after_base p S) (λ y r k. base_in p S y r k) e
 
-element_ends : (g : StrategyGroup) (done : List Strategy) (S : List ParserFrame) → Finish sequences S → Ends (after_element g done S)
+element_ends : (g : StrategyGroup) (done : List Strategy) (S : List ParserFrame) → Finish sequences S
+    → Ends (after_element g done S)
 element_ends g done S E =
     let e : Ends (after (grouped g done) S) = read_ends S E (grouped g done) in
     (ASign (closing g) ∷ e.0, e.1, closes_more g done S e.0 e.1 e.2)
 
 then_ends : (a : Strategy) (S : List ParserFrame) → Finish sequences S → (s : Strategy) → Ends (in_frame s (Then a) S)
 then_ends a S E s =
-    by_token (Reserved KEnd) (in_frame s (Then a) S) (Read (syntax.guard (syntax.test a) s syntax.id)) S refl (read_ends S E (syntax.guard (syntax.test a) s syntax.id))
+    by_token (Reserved KEnd) (in_frame s (Then a) S) (Read (syntax.guard (syntax.test a) s syntax.id)) S refl
+    (read_ends S E (syntax.guard (syntax.test a) s syntax.id))
 
 frame_ends : (F : StrategyFrame) (S : List ParserFrame) → Finish sequences S → (s : Strategy) → Ends (in_frame s F S)
-frame_ends (Operated o) S E s = by_token (ASign CloseRound) (in_frame s (Operated o) S) (Read (operated o s)) S refl (read_ends S E (operated o s))
-frame_ends (Rec x) S E s = by_token (ASign CloseRound) (in_frame s (Rec x) S) (Read (syntax.rec x s)) S refl (read_ends S E (syntax.rec x s))
-frame_ends (Child i) S E s = by_token (ASign CloseRound) (in_frame s (Child i) S) (Read (syntax.child i s)) S refl (read_ends S E (syntax.child i s))
-frame_ends (Scope xs) S E s = by_token (ASign CloseCurly) (in_frame s (Scope xs) S) (Read (syntax.scope xs s)) S refl (read_ends S E (syntax.scope xs s))
+frame_ends (Operated o) S E s =
+    by_token (ASign CloseRound) (in_frame s (Operated o) S) (Read (operated o s)) S refl (read_ends S E (operated o s))
+frame_ends (Rec x) S E s =
+    by_token (ASign CloseRound) (in_frame s (Rec x) S) (Read (syntax.rec x s)) S refl (read_ends S E (syntax.rec x s))
+frame_ends (Child i) S E s = by_token (ASign CloseRound) (in_frame s (Child i) S) (Read (syntax.child i s)) S refl
+    (read_ends S E (syntax.child i s))
+frame_ends (Scope xs) S E s = by_token (ASign CloseCurly) (in_frame s (Scope xs) S) (Read (syntax.scope xs s)) S refl
+    (read_ends S E (syntax.scope xs s))
 frame_ends Application S E s =
     by_token (ASign Greater) (in_frame s Application S) ToPattern (ForPattern (Applied s) ∷ S) refl
     (by_token Wildcard (step ToPattern (ForPattern (Applied s) ∷ S)) (Base wildcard) (ForPattern (Applied s) ∷ S) refl
     (base_ends (ForPattern (Applied s) ∷ S) wildcard (read_ends S E (ordered (order_of S) (syntax.builds wildcard) s))))
 frame_ends If S E s =
     by_token (Reserved KThen) (in_frame s If S) ToStrategy (ForStrategy (Then s) ∷ S) refl
-    (by_token (Reserved KId) (step ToStrategy (ForStrategy (Then s) ∷ S)) (Read syntax.id) (ForStrategy (Then s) ∷ S) refl
+    (by_token (Reserved KId) (step ToStrategy (ForStrategy (Then s) ∷ S)) (Read syntax.id)
+    (ForStrategy (Then s) ∷ S) refl
     (read_ends (ForStrategy (Then s) ∷ S) (λ r. seq_ends (ForStrategy (Then s) ∷ S) r (then_ends s S E r)) syntax.id))
 frame_ends (Then a) S E s = then_ends a S E s
 frame_ends (Else a b) S E s =
-    by_token (Reserved KEnd) (in_frame s (Else a b) S) (Read (syntax.guard (syntax.test a) b s)) S refl (read_ends S E (syntax.guard (syntax.test a) b s))
+    by_token (Reserved KEnd) (in_frame s (Else a b) S) (Read (syntax.guard (syntax.test a) b s)) S refl
+    (read_ends S E (syntax.guard (syntax.test a) b s))
 frame_ends (Where p q) S E s =
     let made = syntax.scope (first_ones same_name [] (variables p)) (rewrite_where (order_of S) p q s) in
     by_token (ASign Backslash) (in_frame s (Where p q) S) (Read made) S refl (read_ends S E made)
@@ -93,7 +102,8 @@ frame_ends (SquareTail done) S E s =
 
 -- ---- after a pattern
 
-closed_ends : (g : PatternGroup) (ps : List Pattern) (S : List ParserFrame) → Finish (below_group g) S → Ends (step (close_patterns g ps) S)
+closed_ends : (g : PatternGroup) (ps : List Pattern) (S : List ParserFrame) → Finish (below_group g) S
+    → Ends (step (close_patterns g ps) S)
 closed_ends (PApplication f) ps S E = base_ends S _ (E _)
 closed_ends PList ps S E = base_ends S _ (E _)
 closed_ends PTuple ps S E = base_ends S _ (E _)
@@ -101,7 +111,8 @@ closed_ends (Annotations p) ps S E = E (annotated p (patterns_of ps))
 closed_ends (Terms f ss) ps S E = read_ends S E _
 closed_ends (Prim f) ps S E = read_ends S E _
 
-group_ends : (g : PatternGroup) (ps : List Pattern) (S : List ParserFrame) → Finish (below_group g) S → Ends (after_one g ps S)
+group_ends : (g : PatternGroup) (ps : List Pattern) (S : List ParserFrame) → Finish (below_group g) S
+    → Ends (after_one g ps S)
 group_ends g ps S E =
     let e = closed_ends g (ps ++ []) S E in
     (ASign (closing_sign g) ∷ e.0, e.1, rest_in no_patterns g ps S (ASign (closing_sign g) ∷ e.0) e.0 e.1 refl e.2)
@@ -111,14 +122,16 @@ right_ends l p S E =
     let made = syntax.scope (first_ones same_name [] (variables l)) (rewrite l p) in
     by_token (ASign Backslash) (pattern_in_frame p (ClosureRight l) S) (Read made) S refl (read_ends S E made)
 
-pattern_frame_ends : (F : PatternFrame) (S : List ParserFrame) → Finish (below F) S → (p : Pattern) → Ends (pattern_in_frame p F S)
+pattern_frame_ends : (F : PatternFrame) (S : List ParserFrame) → Finish (below F) S → (p : Pattern)
+    → Ends (pattern_in_frame p F S)
 pattern_frame_ends Match S E p = read_ends S E (syntax.matches p)
 pattern_frame_ends Build S E p = read_ends S E (syntax.builds p)
 pattern_frame_ends (Applied s) S E p = read_ends S E (ordered (order_of S) (syntax.builds p) s)
 pattern_frame_ends (Matched s) S E p = read_ends S E (syntax.seq s (syntax.matches p))
 pattern_frame_ends ClosureLeft S E p =
     by_token (ASign RightArrow) (pattern_in_frame p ClosureLeft S) ToPattern (ForPattern (ClosureRight p) ∷ S) refl
-    (by_token Wildcard (step ToPattern (ForPattern (ClosureRight p) ∷ S)) (Base wildcard) (ForPattern (ClosureRight p) ∷ S) refl
+    (by_token Wildcard (step ToPattern (ForPattern (ClosureRight p) ∷ S)) (Base wildcard)
+    (ForPattern (ClosureRight p) ∷ S) refl
     (base_ends (ForPattern (ClosureRight p) ∷ S) wildcard (right_ends p wildcard S E)))
 pattern_frame_ends (ClosureRight l) S E p = right_ends l p S E
 pattern_frame_ends (Patterns g ps) S E p = group_ends g (ps ++ p ∷ []) S E
@@ -186,13 +199,15 @@ module _ (S : List ParserFrame) where
     opening_ends F = by_token (ASign OpenRound) (step (Opening F) S) ToStrategy (ForStrategy F ∷ S) refl (opened_ends F)
 
     prim_ends : (f : Symbol) → Ends (step (PrimNamed f) S)
-    prim_ends f = by_token (ASign CloseRound) (step (PrimNamed f) S) (Read (syntax.prim f no_patterns)) S refl (read_at (syntax.prim f no_patterns))
+    prim_ends f = by_token (ASign CloseRound) (step (PrimNamed f) S) (Read (syntax.prim f no_patterns)) S refl
+        (read_at (syntax.prim f no_patterns))
 
     prim_open_ends : Ends (step PrimOpen S)
     prim_open_ends = by_token (Text some_name) (step PrimOpen S) (PrimNamed some_name) S refl (prim_ends some_name)
 
     scope_ends : (xs : List Symbol) → Ends (step (ScopeNamed xs) S)
-    scope_ends xs = by_token (ASign Colon) (step (ScopeNamed xs) S) ToStrategy (ForStrategy (Scope xs) ∷ S) refl (opened_ends (Scope xs))
+    scope_ends xs = by_token (ASign Colon) (step (ScopeNamed xs) S) ToStrategy (ForStrategy (Scope xs) ∷ S) refl
+        (opened_ends (Scope xs))
 
     first_ends : (g : StrategyGroup) → Ends (step (FirstStrategy g) S)
     first_ends g =
@@ -215,12 +230,15 @@ module _ (S : List ParserFrame) where
       lifted (after (syntax.uses f syntax.no_strategies no_patterns) S) (step (Used f) S) (λ y r k. used_in f S y r k)
       (read_at h (syntax.uses f syntax.no_strategies no_patterns))
   state_ends (Opening F) h = opening_ends h F
-  state_ends AfterRec h = by_token (Ident some_name) (step AfterRec S) (Opening (Rec some_name)) S refl (opening_ends h (Rec some_name))
+  state_ends AfterRec h =
+      by_token (Ident some_name) (step AfterRec S) (Opening (Rec some_name)) S refl (opening_ends h (Rec some_name))
   state_ends AfterPrim h = by_token (ASign OpenRound) (step AfterPrim S) PrimOpen S refl (prim_open_ends h)
   state_ends PrimOpen h = prim_open_ends h
   state_ends (PrimNamed f) h = prim_ends h f
-  state_ends ScopeOpen h = by_token (ASign Colon) (step ScopeOpen S) ToStrategy (ForStrategy (Scope []) ∷ S) refl (opened_ends h (Scope []))
-  state_ends (ScopeComma xs) h = by_token (Ident some_name) (step (ScopeComma xs) S) (ScopeNamed (xs ++ some_name ∷ [])) S refl (scope_ends h (xs ++ some_name ∷ []))
+  state_ends ScopeOpen h =
+      by_token (ASign Colon) (step ScopeOpen S) ToStrategy (ForStrategy (Scope []) ∷ S) refl (opened_ends h (Scope []))
+  state_ends (ScopeComma xs) h = by_token (Ident some_name) (step (ScopeComma xs) S)
+      (ScopeNamed (xs ++ some_name ∷ [])) S refl (scope_ends h (xs ++ some_name ∷ []))
   state_ends (ScopeNamed xs) h = scope_ends h xs
   state_ends ToPattern h = by_token Wildcard (step ToPattern S) (Base wildcard) S refl (base_at h wildcard)
   state_ends (FirstPattern g) h = patterns_ends g h

@@ -171,16 +171,20 @@ pattern-fits Bad S h = tt
 
 -- ---- after a strategy
 
-bar-fits : (g : StrategyGroup) (done : List Strategy) (S : List ParserFrame) → Fits sequences S → FitsNext (after_bar g done S)
+bar-fits : (g : StrategyGroup) (done : List Strategy) (S : List ParserFrame) → Fits sequences S
+    → FitsNext (after_bar g done S)
 bar-fits Round done S h = tt
 bar-fits Square done S h = h
 bar-fits (Arguments f) done S h = h
 
-element-fits : (g : StrategyGroup) (done : List Strategy) (S : List ParserFrame) (t : Token) → Fits sequences S → FitsNext (after_element g done S t)
+element-fits : (g : StrategyGroup) (done : List Strategy) (S : List ParserFrame) (t : Token) → Fits sequences S
+    → FitsNext (after_element g done S t)
 element-fits g done S t h =
-    either (is_mark Comma t) _ _ h (either (is_mark Bar t) _ _ (bar-fits g done S h) (either (is_mark (closing g) t) _ _ h tt))
+    either (is_mark Comma t) _ _ h
+    (either (is_mark Bar t) _ _ (bar-fits g done S h) (either (is_mark (closing g) t) _ _ h tt))
 
-frame-fits : (F : StrategyFrame) (s : Strategy) (S : List ParserFrame) (t : Token) → Fits sequences S → FitsNext (in_frame s F S t)
+frame-fits : (F : StrategyFrame) (s : Strategy) (S : List ParserFrame) (t : Token) → Fits sequences S
+    → FitsNext (in_frame s F S t)
 frame-fits (Operated o) s S t h = either (is_mark CloseRound t) _ _ h tt
 frame-fits (Rec x) s S t h = either (is_mark CloseRound t) _ _ h tt
 frame-fits (Child i) s S t h = either (is_mark CloseRound t) _ _ h tt
@@ -228,7 +232,8 @@ after-fits S s t h = either (is_mark FatArrow t) _ _ h (either (is_mark Semicolo
 
 -- ---- after a pattern
 
-closed-fits : (g : PatternGroup) (ps : List Pattern) (S : List ParserFrame) → Fits (below_group g) S → Fits (stands (close_patterns g ps)) S
+closed-fits : (g : PatternGroup) (ps : List Pattern) (S : List ParserFrame) → Fits (below_group g) S
+    → Fits (stands (close_patterns g ps)) S
 closed-fits (PApplication f) ps S h = h
 closed-fits PList ps S h = h
 closed-fits PTuple ps S h = h
@@ -236,7 +241,8 @@ closed-fits (Annotations p) ps S h = h
 closed-fits (Terms f ss) ps S h = h
 closed-fits (Prim f) ps S h = h
 
-pattern_bar-fits : (g : PatternGroup) (ps : List Pattern) (S : List ParserFrame) → Fits (below_group g) S → FitsNext (pattern_bar g ps S)
+pattern_bar-fits : (g : PatternGroup) (ps : List Pattern) (S : List ParserFrame) → Fits (below_group g) S
+    → FitsNext (pattern_bar g ps S)
 pattern_bar-fits PList ps S h = h
 pattern_bar-fits (PApplication f) ps S h = tt
 pattern_bar-fits PTuple ps S h = tt
@@ -244,12 +250,14 @@ pattern_bar-fits (Annotations p) ps S h = tt
 pattern_bar-fits (Terms f ss) ps S h = tt
 pattern_bar-fits (Prim f) ps S h = tt
 
-one-fits : (g : PatternGroup) (ps : List Pattern) (S : List ParserFrame) (t : Token) → Fits (below_group g) S → FitsNext (after_one g ps S t)
+one-fits : (g : PatternGroup) (ps : List Pattern) (S : List ParserFrame) (t : Token) → Fits (below_group g) S
+    → FitsNext (after_one g ps S t)
 one-fits g ps S t h =
     either (is_mark Comma t) _ _ h (either (is_mark (closing_sign g) t) _ _ (closed-fits g ps S h)
     (either (is_mark Bar t) _ _ (pattern_bar-fits g ps S h) tt))
 
-pattern_frame-fits : (F : PatternFrame) (p : Pattern) (S : List ParserFrame) (t : Token) → Fits (below F) S → FitsNext (pattern_in_frame p F S t)
+pattern_frame-fits : (F : PatternFrame) (p : Pattern) (S : List ParserFrame) (t : Token) → Fits (below F) S
+    → FitsNext (pattern_in_frame p F S t)
 pattern_frame-fits Match p S t h = after-fits S (syntax.matches p) t h
 pattern_frame-fits Build p S t h = after-fits S (syntax.builds p) t h
 pattern_frame-fits (Applied s) p S t h = after-fits S (ordered (order_of S) (syntax.builds p) s) t h
@@ -292,9 +300,11 @@ scope-fits t xs S h = tt
 pub step-fits : (q : ParserState) (S : List ParserFrame) (t : Token) → Fits (stands q) S → FitsNext (step q S t)
 step-fits ToStrategy S t h = begin-fits t S h
 step-fits (FirstStrategy g) S t h =
-    either (is_mark (closing g) t) _ _ h (either (is_mark Bar t) _ _ (empty_bar-fits g S h) (begin-fits t (ForStrategy (Strategies g []) ∷ S) h))
+    either (is_mark (closing g) t) _ _ h
+    (either (is_mark Bar t) _ _ (empty_bar-fits g S h) (begin-fits t (ForStrategy (Strategies g []) ∷ S) h))
 step-fits (Read s) S t h = after-fits S s t h
-step-fits (Used f) S t h = either (is_mark OpenRound t) _ _ h (after-fits S (syntax.uses f syntax.no_strategies syntax.no_patterns) t h)
+step-fits (Used f) S t h =
+    either (is_mark OpenRound t) _ _ h (after-fits S (syntax.uses f syntax.no_strategies syntax.no_patterns) t h)
 step-fits (Opening F) S t h = either (is_mark OpenRound t) _ _ h tt
 step-fits AfterRec S t h = rec-fits t S h
 step-fits AfterPrim S t h = either (is_mark OpenRound t) _ _ h tt
@@ -304,7 +314,9 @@ step-fits ScopeOpen S t h = either (is_mark Colon t) _ _ h (scope-fits t [] S h)
 step-fits (ScopeComma xs) S t h = scope-fits t xs S h
 step-fits (ScopeNamed xs) S t h = either (is_mark Colon t) _ _ h (either (is_mark Comma t) _ _ h tt)
 step-fits ToPattern S t h = pattern-fits t S h
-step-fits (FirstPattern g) S t h = either (is_mark (closing_sign g) t) _ _ (closed-fits g [] S h) (pattern-fits t (ForPattern (Patterns g []) ∷ S) h)
-step-fits (Named f) S t h = either (is_mark OpenRound t) _ _ h (either (is_mark AtSign t) _ _ h (base-fits S (syntax.variable f) t h))
+step-fits (FirstPattern g) S t h =
+    either (is_mark (closing_sign g) t) _ _ (closed-fits g [] S h) (pattern-fits t (ForPattern (Patterns g []) ∷ S) h)
+step-fits (Named f) S t h =
+    either (is_mark OpenRound t) _ _ h (either (is_mark AtSign t) _ _ h (base-fits S (syntax.variable f) t h))
 step-fits (Base p) S t h = base-fits S p t h
 step-fits (Whole p) S t h = after_pattern-fits S p t h

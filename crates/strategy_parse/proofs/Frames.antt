@@ -52,7 +52,8 @@ then_framed {R} {S} r s = record {
 
 -- ---- patterns
 
-applied_front : (f : Symbol) (ps : Patterns) → Framed (ReadsPatterns ps CloseRound) → (u v : List Token) → ReadsPattern (compound (applied f) ps) u v → Front (ReadsPattern (compound (applied f) ps)) u v
+applied_front : (f : Symbol) (ps : Patterns) → Framed (ReadsPatterns ps CloseRound) → (u v : List Token)
+    → ReadsPattern (compound (applied f) ps) u v → Front (ReadsPattern (compound (applied f) ps)) u v
 applied_front f ps framed u v (inl h) = record {
   taken = Text f ∷ [];
   splits = h.0;
@@ -62,7 +63,8 @@ applied_front f ps framed u v (inr h) =
     let g = (then_framed (next_framed (Ident f)) (then_framed (mark_framed OpenRound) framed)).frames u v h in
     record { taken = g.taken; splits = g.splits; anywhere = λ z. inr (g.anywhere z) }
 
-applied_framed : (f : Symbol) (ps : Patterns) → Framed (ReadsPatterns ps CloseRound) → Framed (ReadsPattern (compound (applied f) ps))
+applied_framed : (f : Symbol) (ps : Patterns) → Framed (ReadsPatterns ps CloseRound)
+    → Framed (ReadsPattern (compound (applied f) ps))
 applied_framed f ps framed = record { frames = λ u v h. applied_front f ps framed u v h }
 
 mutual
@@ -82,7 +84,9 @@ mutual
       (then_framed (pattern_framed p) (mark_framed CloseSquare)))
   pattern_framed (annotated p ps) = record {
     frames = λ u v h.
-        let f = (then_framed (pattern_framed p) (then_framed (mark_framed OpenCurly) (patterns_framed ps CloseCurly))).frames u v h.1 in
+        let f =
+        (then_framed (pattern_framed p) (then_framed (mark_framed OpenCurly) (patterns_framed ps CloseCurly))).frames
+        u v h.1 in
         record { taken = f.taken; splits = f.splits; anywhere = λ z. (h.0, f.anywhere z) };
   }
 
@@ -146,7 +150,8 @@ mutual
   prefix_framed (question p) = then_framed (mark_framed Question) (pattern_framed p)
   prefix_framed (exclamation p) = then_framed (mark_framed Exclamation) (pattern_framed p)
   prefix_framed (application a p) =
-      then_framed (mark_framed Less) (then_framed (choice_framed a) (then_framed (mark_framed Greater) (pattern_framed p)))
+      then_framed (mark_framed Less)
+      (then_framed (choice_framed a) (then_framed (mark_framed Greater) (pattern_framed p)))
   prefix_framed identity = word_framed Id
   prefix_framed failure = word_framed Fail
   prefix_framed (operator o a) =

@@ -85,8 +85,10 @@ or-right false b e = e
 module _ (t u : Token) (k : Quiet u) where
   element-no : (g : StrategyGroup) (done : List Strategy) (S : List ParserFrame) → NoEnd (after_element g done S t)
   element-no g done S =
-      if-no (is_mark Comma t) (goes ToStrategy (ForStrategy (Strategies g done) ∷ S)) _ (goes-no ToStrategy (ForStrategy (Strategies g done) ∷ S))
-      (if-no (is_mark Bar t) (after_bar g done S) (close_strategies g done S t) (bar-no g) (only-no (is_mark (closing g) t) (Read (grouped g done)) S)) where
+      if-no (is_mark Comma t) (goes ToStrategy (ForStrategy (Strategies g done) ∷ S)) _
+      (goes-no ToStrategy (ForStrategy (Strategies g done) ∷ S))
+      (if-no (is_mark Bar t) (after_bar g done S) (close_strategies g done S t) (bar-no g)
+      (only-no (is_mark (closing g) t) (Read (grouped g done)) S)) where
         bar-no : (h : StrategyGroup) → NoEnd (after_bar h done S)
         bar-no Round = stuck-no
         bar-no Square = goes-no ToStrategy (ForStrategy (SquareTail done) ∷ S)
@@ -99,7 +101,8 @@ module _ (t u : Token) (k : Quiet u) where
   frame-no (Scope xs) s S = only-no (is_mark CloseCurly t) _ S
   frame-no Application s S = only-no (is_mark Greater t) _ _
   frame-no If s S = only-no (is_word KThen t) _ _
-  frame-no (Then a) s S = if-no (is_word KElse t) (goes ToStrategy (ForStrategy (Else a s) ∷ S)) _ (goes-no ToStrategy (ForStrategy (Else a s) ∷ S)) (only-no (is_word KEnd t) _ S)
+  frame-no (Then a) s S = if-no (is_word KElse t) (goes ToStrategy (ForStrategy (Else a s) ∷ S)) _
+      (goes-no ToStrategy (ForStrategy (Else a s) ∷ S)) (only-no (is_word KEnd t) _ S)
   frame-no (Else a b) s S = only-no (is_word KEnd t) _ S
   frame-no (Where p q) s S = only-no (is_mark Backslash t) _ S
   frame-no (Strategies g done) s S = element-no g (done ++ s ∷ []) S
@@ -125,8 +128,10 @@ module _ (t u : Token) (k : Quiet u) where
   seq-ends : (S : List ParserFrame) (s r : Strategy) → after_seq s S t ≡ ends r → after_seq s S u ≡ ends r
   seq-ends S s r e =
       rw (k.choice, k.less) (choice-ends S s r
-      (past (is_mark Less t) (goes ToStrategy (Operand Guarded s ∷ S)) (after_choice s S t) r (goes-no ToStrategy (Operand Guarded s ∷ S))
-      (past (is_mark LeftChoice t) (goes ToStrategy (Operand Otherwise syntax.id ∷ (Operand Guarded s ∷ S))) _ r (goes-no ToStrategy (Operand Otherwise syntax.id ∷ (Operand Guarded s ∷ S))) e)))
+      (past (is_mark Less t) (goes ToStrategy (Operand Guarded s ∷ S)) (after_choice s S t) r
+      (goes-no ToStrategy (Operand Guarded s ∷ S))
+      (past (is_mark LeftChoice t) (goes ToStrategy (Operand Otherwise syntax.id ∷ (Operand Guarded s ∷ S))) _ r
+      (goes-no ToStrategy (Operand Otherwise syntax.id ∷ (Operand Guarded s ∷ S))) e)))
 
   arrow-ends : (S : List ParserFrame) (s r : Strategy) → after_arrow s S t ≡ ends r → after_arrow s S u ≡ ends r
   arrow-ends [] s r e = seq-ends [] s r e
@@ -141,12 +146,15 @@ module _ (t u : Token) (k : Quiet u) where
   after-ends : (S : List ParserFrame) (s r : Strategy) → after s S t ≡ ends r → after s S u ≡ ends r
   after-ends S s r e =
       rw (k.fat, k.semicolon) (arrow-ends S s r
-      (past (is_mark Semicolon t) (goes ToStrategy (Operand Before s ∷ S)) (after_arrow s S t) r (goes-no ToStrategy (Operand Before s ∷ S))
-      (past (is_mark FatArrow t) (goes ToPattern (ForPattern (Matched s) ∷ S)) _ r (goes-no ToPattern (ForPattern (Matched s) ∷ S)) e)))
+      (past (is_mark Semicolon t) (goes ToStrategy (Operand Before s ∷ S)) (after_arrow s S t) r
+      (goes-no ToStrategy (Operand Before s ∷ S))
+      (past (is_mark FatArrow t) (goes ToPattern (ForPattern (Matched s) ∷ S)) _ r
+      (goes-no ToPattern (ForPattern (Matched s) ∷ S)) e)))
 
   one-no : (g : PatternGroup) (ps : List Pattern) (S : List ParserFrame) → NoEnd (after_one g ps S t)
   one-no g ps S =
-      if-no (is_mark Comma t) (goes ToPattern (ForPattern (Patterns g ps) ∷ S)) _ (goes-no ToPattern (ForPattern (Patterns g ps) ∷ S))
+      if-no (is_mark Comma t) (goes ToPattern (ForPattern (Patterns g ps) ∷ S)) _
+      (goes-no ToPattern (ForPattern (Patterns g ps) ∷ S))
       (if-no (is_mark (closing_sign g) t) (goes (close_patterns g ps) S) _ (goes-no (close_patterns g ps) S)
       (if-no (is_mark Bar t) (pattern_bar g ps S) stuck (bar-no g) stuck-no)) where
         bar-no : (h : PatternGroup) → NoEnd (pattern_bar h ps S)
@@ -157,17 +165,20 @@ module _ (t u : Token) (k : Quiet u) where
         bar-no (Terms f ss) = stuck-no
         bar-no (Prim f) = stuck-no
 
-  pattern_frame-ends : (F : PatternFrame) (p : Pattern) (S : List ParserFrame) (r : Strategy) → pattern_in_frame p F S t ≡ ends r → pattern_in_frame p F S u ≡ ends r
+  pattern_frame-ends : (F : PatternFrame) (p : Pattern) (S : List ParserFrame) (r : Strategy)
+      → pattern_in_frame p F S t ≡ ends r → pattern_in_frame p F S u ≡ ends r
   pattern_frame-ends Match p S r e = after-ends S (syntax.matches p) r e
   pattern_frame-ends Build p S r e = after-ends S (syntax.builds p) r e
   pattern_frame-ends (Applied s) p S r e = after-ends S (ordered (order_of S) (syntax.builds p) s) r e
   pattern_frame-ends (Matched s) p S r e = after-ends S (syntax.seq s (syntax.matches p)) r e
   pattern_frame-ends ClosureLeft p S r e = absurd (only-no (is_mark RightArrow t) _ _ r e)
-  pattern_frame-ends (ClosureRight l) p S r e = absurd (if-no (is_mark Backslash t) _ _ (goes-no _ _) (only-no (is_word KWhere t) _ _) r e)
+  pattern_frame-ends (ClosureRight l) p S r e =
+      absurd (if-no (is_mark Backslash t) _ _ (goes-no _ _) (only-no (is_word KWhere t) _ _) r e)
   pattern_frame-ends (Patterns g ps) p S r e = absurd (one-no g (ps ++ p ∷ []) S r e)
   pattern_frame-ends (PatternTail ps) p S r e = absurd (only-no (is_mark CloseSquare t) _ _ r e)
 
-  pattern-ends : (S : List ParserFrame) (p : Pattern) (r : Strategy) → after_pattern p S t ≡ ends r → after_pattern p S u ≡ ends r
+  pattern-ends : (S : List ParserFrame) (p : Pattern) (r : Strategy) → after_pattern p S t ≡ ends r
+      → after_pattern p S u ≡ ends r
   pattern-ends [] p r e = e
   pattern-ends (InText ∷ S) p r e = absurd (cc)
   pattern-ends (At x ∷ S) p r e = pattern-ends S (syntax.at x p) r e
@@ -177,8 +188,10 @@ module _ (t u : Token) (k : Quiet u) where
   pattern-ends (Operand Otherwise b ∷ S) p r e = absurd (cc)
   pattern-ends (ForStrategy F ∷ S) p r e = absurd (cc)
 
-  base-ends : (S : List ParserFrame) (p : Pattern) (r : Strategy) → after_base p S t ≡ ends r → after_base p S u ≡ ends r
-  base-ends S p r e = rw k.curly (pattern-ends S p r (past (is_mark OpenCurly t) (goes (FirstPattern (Annotations p)) S) (after_pattern p S t) r (goes-no (FirstPattern (Annotations p)) S) e))
+  base-ends : (S : List ParserFrame) (p : Pattern) (r : Strategy) → after_base p S t ≡ ends r
+      → after_base p S u ≡ ends r
+  base-ends S p r e = rw k.curly (pattern-ends S p r (past (is_mark OpenCurly t) (goes (FirstPattern (Annotations p)) S)
+      (after_pattern p S t) r (goes-no (FirstPattern (Annotations p)) S) e))
 
 -- ---- a beginning never ends
 
@@ -248,22 +261,31 @@ module _ (t u : Token) (k : Quiet u) where
     bar-no (Arguments f) = goes-no (FirstPattern (Terms f [])) S
 
     first-no : NoEnd (first_strategy g S t)
-    first-no = if-no (is_mark (closing g) t) (goes (Read (grouped g [])) S) _ (goes-no (Read (grouped g [])) S) (if-no (is_mark Bar t) (empty_bar g S) _ (bar-no g) (begin-no t (ForStrategy (Strategies g []) ∷ S)))
+    first-no = if-no (is_mark (closing g) t) (goes (Read (grouped g [])) S) _ (goes-no (Read (grouped g [])) S)
+        (if-no (is_mark Bar t) (empty_bar g S) _ (bar-no g) (begin-no t (ForStrategy (Strategies g []) ∷ S)))
   step-ends (Read s) S r e = after-ends t u k S s r e
-  step-ends (Used f) S r e = rw k.round (after-ends t u k S (syntax.uses f syntax.no_strategies syntax.no_patterns) r (past (is_mark OpenRound t) (goes (FirstStrategy (Arguments f)) S) (after (syntax.uses f syntax.no_strategies syntax.no_patterns) S t) r (goes-no (FirstStrategy (Arguments f)) S) e))
+  step-ends (Used f) S r e = rw k.round
+      (after-ends t u k S (syntax.uses f syntax.no_strategies syntax.no_patterns) r (past (is_mark OpenRound t)
+      (goes (FirstStrategy (Arguments f)) S) (after (syntax.uses f syntax.no_strategies syntax.no_patterns) S t) r
+      (goes-no (FirstStrategy (Arguments f)) S) e))
   step-ends (Opening F) S r e = absurd (only-no (is_mark OpenRound t) _ _ r e)
   step-ends AfterRec S r e = absurd (rec-no t S r e)
   step-ends AfterPrim S r e = absurd (only-no (is_mark OpenRound t) _ _ r e)
   step-ends PrimOpen S r e = absurd (prim-no t S r e)
-  step-ends (PrimNamed f) S r e = absurd (if-no (is_mark Comma t) _ _ (goes-no _ _) (only-no (is_mark CloseRound t) _ _) r e)
+  step-ends (PrimNamed f) S r e =
+      absurd (if-no (is_mark Comma t) _ _ (goes-no _ _) (only-no (is_mark CloseRound t) _ _) r e)
   step-ends ScopeOpen S r e = absurd (if-no (is_mark Colon t) (begin_scope [] S) _ (goes-no _ _) (scope-no t [] S) r e)
   step-ends (ScopeComma xs) S r e = absurd (scope-no t xs S r e)
-  step-ends (ScopeNamed xs) S r e = absurd (if-no (is_mark Colon t) (begin_scope xs S) _ (goes-no _ _) (only-no (is_mark Comma t) _ _) r e)
+  step-ends (ScopeNamed xs) S r e =
+      absurd (if-no (is_mark Colon t) (begin_scope xs S) _ (goes-no _ _) (only-no (is_mark Comma t) _ _) r e)
   step-ends ToPattern S r e = absurd (begin_pattern-no t S r e)
-  step-ends (FirstPattern g) S r e = absurd (if-no (is_mark (closing_sign g) t) (goes (close_patterns g []) S) _ (goes-no (close_patterns g []) S) (begin_pattern-no t (ForPattern (Patterns g []) ∷ S)) r e)
+  step-ends (FirstPattern g) S r e = absurd (if-no (is_mark (closing_sign g) t) (goes (close_patterns g []) S) _
+      (goes-no (close_patterns g []) S) (begin_pattern-no t (ForPattern (Patterns g []) ∷ S)) r e)
   step-ends (Named f) S r e = rw (k.round, k.at) (base-ends t u k S (syntax.variable f) r
-      (past (is_mark AtSign t) (goes ToPattern (At f ∷ S)) (after_base (syntax.variable f) S t) r (goes-no ToPattern (At f ∷ S))
-      (past (is_mark OpenRound t) (goes (FirstPattern (PApplication f)) S) _ r (goes-no (FirstPattern (PApplication f)) S) e)))
+      (past (is_mark AtSign t) (goes ToPattern (At f ∷ S)) (after_base (syntax.variable f) S t) r
+      (goes-no ToPattern (At f ∷ S))
+      (past (is_mark OpenRound t) (goes (FirstPattern (PApplication f)) S) _ r
+      (goes-no (FirstPattern (PApplication f)) S) e)))
   step-ends (Base p) S r e = base-ends t u k S p r e
   step-ends (Whole p) S r e = pattern-ends t u k S p r e
 
@@ -294,42 +316,54 @@ end-is (goes q S) s e = absurd (cc)
 end-is (ends r) s e = cc
 end-is stuck s e = absurd (cc)
 
-stop_front : (q : ParserState) (S : List ParserFrame) (y : List Token) (s : Strategy) → Stops y → step q S Bad ≡ ends s → Fronts q S y s y
+stop_front : (q : ParserState) (S : List ParserFrame) (y : List Token) (s : Strategy) → Stops y → step q S Bad ≡ ends s
+    → Fronts q S y s y
 stop_front q S [] s h e = ap (front_of (λ p T. None) []) e
 stop_front q S (t ∷ ts) s h e =
     ap (front_of (λ p T. front (step p T) ts) (t ∷ ts)) (step-ends Bad t (stops_quiet t h) q S s e)
 
-next_front : (w : List Token) (t : Token) (y : List Token) (s : Strategy) → ((p : ParserState) (T : List ParserFrame) → resume (step p T) w ≡ Some s → Fronts p T (w ++ y) s y) → (n : Next) → go_on (λ p T. resume (step p T) w) n ≡ Some s → front_of (λ p T. front (step p T) (w ++ y)) (t ∷ (w ++ y)) n ≡ Some (s, y)
+next_front : (w : List Token) (t : Token) (y : List Token) (s : Strategy)
+    → ((p : ParserState) (T : List ParserFrame) → resume (step p T) w ≡ Some s → Fronts p T (w ++ y) s y) → (n : Next)
+    → go_on (λ p T. resume (step p T) w) n ≡ Some s
+    → front_of (λ p T. front (step p T) (w ++ y)) (t ∷ (w ++ y)) n ≡ Some (s, y)
 next_front w t y s more (goes p T) e = more p T e
 next_front w t y s more (ends r) e = absurd (cc)
 next_front w t y s more stuck e = absurd (cc)
 
-pub resumed_front : (w : List Token) (q : ParserState) (S : List ParserFrame) (y : List Token) (s : Strategy) → Stops y → resume (step q S) w ≡ Some s → Fronts q S (w ++ y) s y
+pub resumed_front : (w : List Token) (q : ParserState) (S : List ParserFrame) (y : List Token) (s : Strategy) → Stops y
+    → resume (step q S) w ≡ Some s → Fronts q S (w ++ y) s y
 resumed_front [] q S y s h e = stop_front q S y s h (end-is (step q S Bad) s e)
 resumed_front (t ∷ w) q S y s h e = next_front w t y s (λ p T k. resumed_front w p T y s h k) (step q S t) e
 
 -- what was read, if x begins with s and y is the rest
-pub record Taken (q : ParserState) (S : List ParserFrame) (x : List Token) (s : Strategy) (y : List Token) : Type 0 where
+pub record Taken (q : ParserState) (S : List ParserFrame) (x : List Token) (s : Strategy)
+    (y : List Token) : Type 0 where
   pub taken : List Token
   pub splits : x ≡ taken ++ y
   pub gives : resume (step q S) taken ≡ Some s
 
-same_pair : (r s : Strategy) (x y : List Token) → ◌≡◌ {A = Option (Strategy × List Token)} (Some (r, x)) (Some (s, y)) → (r ≡ s) × (x ≡ y)
+same_pair : (r s : Strategy) (x y : List Token) → ◌≡◌ {A = Option (Strategy × List Token)} (Some (r, x)) (Some (s, y))
+    → (r ≡ s) × (x ≡ y)
 same_pair r s x y e =
     let same : ◌≡◌ {A = Strategy × List Token} (r, x) (s, y) = cc in
     (ap (λ (p : Strategy × List Token). p.0) same, ap (λ (p : Strategy × List Token). p.1) same)
 
-ended : (q : ParserState) (S : List ParserFrame) (x y : List Token) (r s : Strategy) → step q S Bad ≡ ends r → ◌≡◌ {A = Option (Strategy × List Token)} (Some (r, x)) (Some (s, y)) → Taken q S x s y
+ended : (q : ParserState) (S : List ParserFrame) (x y : List Token) (r s : Strategy) → step q S Bad ≡ ends r
+    → ◌≡◌ {A = Option (Strategy × List Token)} (Some (r, x)) (Some (s, y)) → Taken q S x s y
 ended q S x y r s e h =
     let same = same_pair r s x y h in
     record { taken = []; splits = same.1; gives = ap at_end e ∙ ap Some same.0 }
 
-last_taken : (n : Next) (q : ParserState) (S : List ParserFrame) (s : Strategy) (y : List Token) → step q S Bad ≡ n → front_of (λ p T. None) [] n ≡ Some (s, y) → Taken q S [] s y
+last_taken : (n : Next) (q : ParserState) (S : List ParserFrame) (s : Strategy) (y : List Token)
+    → step q S Bad ≡ n → front_of (λ p T. None) [] n ≡ Some (s, y) → Taken q S [] s y
 last_taken (goes p T) q S s y h e = absurd (cc)
 last_taken (ends r) q S s y h e = ended q S [] y r s h e
 last_taken stuck q S s y h e = absurd (cc)
 
-next_taken : (x : List Token) (s : Strategy) (y : List Token) → ((p : ParserState) (T : List ParserFrame) → Fronts p T x s y → Taken p T x s y) → (n : Next) (t : Token) (q : ParserState) (S : List ParserFrame) → step q S t ≡ n → front_of (λ p T. front (step p T) x) (t ∷ x) n ≡ Some (s, y) → Taken q S (t ∷ x) s y
+next_taken : (x : List Token) (s : Strategy) (y : List Token)
+    → ((p : ParserState) (T : List ParserFrame) → Fronts p T x s y → Taken p T x s y)
+    → (n : Next) (t : Token) (q : ParserState) (S : List ParserFrame)
+    → step q S t ≡ n → front_of (λ p T. front (step p T) x) (t ∷ x) n ≡ Some (s, y) → Taken q S (t ∷ x) s y
 next_taken x s y more (goes p T) t q S h e =
     let rest = more p T e in
     record {
@@ -340,6 +374,7 @@ next_taken x s y more (goes p T) t q S h e =
 next_taken x s y more (ends r) t q S h e = ended q S (t ∷ x) y r s (step-ends t Bad bad_quiet q S r h) e
 next_taken x s y more stuck t q S h e = absurd (cc)
 
-pub front_taken : (x : List Token) (q : ParserState) (S : List ParserFrame) (s : Strategy) (y : List Token) → Fronts q S x s y → Taken q S x s y
+pub front_taken : (x : List Token) (q : ParserState) (S : List ParserFrame) (s : Strategy) (y : List Token)
+    → Fronts q S x s y → Taken q S x s y
 front_taken [] q S s y e = last_taken (step q S Bad) q S s y refl e
 front_taken (t ∷ x) q S s y e = next_taken x s y (λ p T k. front_taken x p T s y k) (step q S t) t q S refl e

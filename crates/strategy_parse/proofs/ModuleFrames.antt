@@ -33,28 +33,34 @@ optional_framed None = record { frames = λ u v h. record { taken = []; splits =
 optional_framed (Some f) = next_framed (Ident f)
 
 declaration_framed : (d : Declaration) → Framed (ReadsDeclaration d)
-declaration_framed (constant f s) = then_framed (next_framed (Ident f)) (then_framed (mark_framed Colon) (sort_framed s))
+declaration_framed (constant f s) =
+    then_framed (next_framed (Ident f)) (then_framed (mark_framed Colon) (sort_framed s))
 declaration_framed (function f no_sorts r) = record { frames = λ u v h. absurd h }
 declaration_framed (function f (and_sort s ss) r) =
     then_framed (optional_framed f) (then_framed (mark_framed Colon) (then_framed (sort_framed s)
     (then_framed (arguments_framed ss) (sort_framed r))))
 
-parameters_front : (ss ts : List Symbol) (u v : List Token) → ReadsParameters ss ts u v → Front (ReadsParameters ss ts) u v
+parameters_front : (ss ts : List Symbol) (u v : List Token) → ReadsParameters ss ts u v
+    → Front (ReadsParameters ss ts) u v
 parameters_front ss ts u v (inl h) =
     let f : Front (ReadsNames ss CloseRound) u v = (names_framed ss CloseRound).frames u v h.1 in
     record { taken = f.taken; splits = f.splits; anywhere = λ z. inl (h.0, f.anywhere z) }
 parameters_front ss ts u v (inr h) =
-    let both : Framed (ReadsNames ss Bar ▸ ReadsNames ts CloseRound) = then_framed (names_framed ss Bar) (names_framed ts CloseRound) in
+    let both : Framed (ReadsNames ss Bar ▸ ReadsNames ts CloseRound) =
+    then_framed (names_framed ss Bar) (names_framed ts CloseRound) in
     let f : Front (ReadsNames ss Bar ▸ ReadsNames ts CloseRound) u v = both.frames u v h in
     record { taken = f.taken; splits = f.splits; anywhere = λ z. inr (f.anywhere z) }
 
 abbrev Brackets : Header → Reading
-Brackets h x y = (Mark OpenRound ▸ ReadsParameters h.strategies h.terms) x y ⊎ ((y ≡ x) × (h.strategies ≡ []) × (h.terms ≡ []))
+Brackets h x y =
+    (Mark OpenRound ▸ ReadsParameters h.strategies h.terms) x y ⊎ ((y ≡ x) × (h.strategies ≡ []) × (h.terms ≡ []))
 
 brackets_front : (h : Header) (u v : List Token) → Brackets h u v → Front (Brackets h) u v
 brackets_front h u v (inl r) =
-    let inside : Framed (ReadsParameters h.strategies h.terms) = record { frames = parameters_front h.strategies h.terms } in
-    let both : Framed (Mark OpenRound ▸ ReadsParameters h.strategies h.terms) = then_framed (mark_framed OpenRound) inside in
+    let inside : Framed (ReadsParameters h.strategies h.terms) =
+    record { frames = parameters_front h.strategies h.terms } in
+    let both : Framed (Mark OpenRound ▸ ReadsParameters h.strategies h.terms) =
+    then_framed (mark_framed OpenRound) inside in
     let f : Front (Mark OpenRound ▸ ReadsParameters h.strategies h.terms) u v = both.frames u v r in
     record { taken = f.taken; splits = f.splits; anywhere = λ z. inl (f.anywhere z) }
 brackets_front h u v (inr r) = record { taken = []; splits = sym r.0; anywhere = λ z. inr (refl, r.1, r.2) }
@@ -71,7 +77,8 @@ defined_framed (rule h p q) =
     (then_framed (mark_framed RightArrow) (pattern_framed q))))
 defined_framed (rule_where h p q a) =
     then_framed (header_framed h) (then_framed (mark_framed Colon) (then_framed (pattern_framed p)
-    (then_framed (mark_framed RightArrow) (then_framed (pattern_framed q) (then_framed (word_framed Where) (choice_framed a))))))
+    (then_framed (mark_framed RightArrow)
+    (then_framed (pattern_framed q) (then_framed (word_framed Where) (choice_framed a))))))
 
 -- a reading that doesn't accept the empty list consumes a token
 module _ (R : Reading) (f : Framed R) (some : R [] [] → ⊥) (x y : List Token) (h : R x y) where
@@ -95,7 +102,8 @@ declaration_some : (d : Declaration) → ReadsDeclaration d [] [] → ⊥
 declaration_some (constant f s) h = let no : ◌≡◌ {A = List Token} [] (Ident f ∷ h.0) = h.1 in cc
 declaration_some (function f no_sorts r) h = h
 declaration_some (function (Some f) (and_sort s ss) r) h = let no : ◌≡◌ {A = List Token} [] (Ident f ∷ h.0) = h.1 in cc
-declaration_some (function None (and_sort s ss) r) h = let no : ◌≡◌ {A = List Token} [] (ASign Colon ∷ h.2.0) = sym h.1 ∙ h.2.1 in cc
+declaration_some (function None (and_sort s ss) r) h = let no : ◌≡◌ {A = List Token} [] (ASign Colon ∷ h.2.0) = sym h.1
+    ∙ h.2.1 in cc
 
 defined_some : (d : Defined) → ReadsDefined d [] [] → ⊥
 defined_some (definition h a) r = let no : ◌≡◌ {A = List Token} [] (Ident h.name ∷ r.1.0) = r.1.1 in cc

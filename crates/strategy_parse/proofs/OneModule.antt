@@ -33,11 +33,15 @@ use Rattle.strategy_parse.proofs.SectionItems.{outside_item, signature_item, Sor
 use Rattle.strategy_parse.proofs.TitleLemmas.{title_forth, untitled_forth}
 use Rattle.strategy_parse.proofs.ModuleFrames.{sort_shorter, declaration_shorter, defined_shorter}
 
-pair-left : (s r : Strategy) (x y : List Token) → ◌≡◌ {A = Option (Strategy × List Token)} (Some (s, x)) (Some (r, y)) → s ≡ r
-pair-left s r x y e = let pair : ◌≡◌ {A = Strategy × List Token} (s, x) (r, y) = cc in ap (λ (q : Strategy × List Token). q.0) pair
+pair-left : (s r : Strategy) (x y : List Token)
+    → ◌≡◌ {A = Option (Strategy × List Token)} (Some (s, x)) (Some (r, y)) → s ≡ r
+pair-left s r x y e = let pair : ◌≡◌ {A = Strategy × List Token} (s, x) (r, y) = cc in
+    ap (λ (q : Strategy × List Token). q.0) pair
 
-pair-right : (s r : Strategy) (x y : List Token) → ◌≡◌ {A = Option (Strategy × List Token)} (Some (s, x)) (Some (r, y)) → x ≡ y
-pair-right s r x y e = let pair : ◌≡◌ {A = Strategy × List Token} (s, x) (r, y) = cc in ap (λ (q : Strategy × List Token). q.1) pair
+pair-right : (s r : Strategy) (x y : List Token)
+    → ◌≡◌ {A = Option (Strategy × List Token)} (Some (s, x)) (Some (r, y)) → x ≡ y
+pair-right s r x y e = let pair : ◌≡◌ {A = Strategy × List Token} (s, x) (r, y) = cc in
+    ap (λ (q : Strategy × List Token). q.1) pair
 
 -- ---- what reads at the start is unique
 
@@ -45,14 +49,16 @@ pattern_at : (x : List Token) (p : Pattern) (y : List Token) → ReadsPattern p 
 pattern_at x p y h e = record {
   given = h;
   only = λ q z r s.
-      let same : ◌≡◌ {A = Option (Strategy × List Token)} (Some (syntax.matches q, z)) (Some (syntax.matches p, y)) = sym (pattern-front q x z r s) ∙ pattern-front p x y h e in
+      let same : ◌≡◌ {A = Option (Strategy × List Token)} (Some (syntax.matches q, z)) (Some (syntax.matches p, y)) =
+      sym (pattern-front q x z r s) ∙ pattern-front p x y h e in
       let left : syntax.matches q ≡ syntax.matches p = pair-left (syntax.matches q) (syntax.matches p) z y same in
       let is : q ≡ p = cc in
       (is, pair-right (syntax.matches q) (syntax.matches p) z y same);
 }
 
 choice_at : (u : Choice) (x y : List Token) → ReadsChoice u x y → Stops y → ChoiceAt x (core Run u) y
-choice_at u x y h e = record { given = (u, h, refl); only = strategy-only x [] refl (core Run u) y (choice-front u x y h e) }
+choice_at u x y h e =
+    record { given = (u, h, refl); only = strategy-only x [] refl (core Run u) y (choice-front u x y h e) }
 
 -- any definition there is this one
 abbrev Only : List Token → Definition → List Token → Type 0
@@ -79,13 +85,15 @@ definition_one (rule h p q) x y r e =
     let header : header_at x ≡ Some (h, r.0) = header_named h x r.0 r.1 t.ends in
     let plain : after_mark Equals r.0 ≡ None = ap (after_mark Equals) r.2.1 in
     let colon : after_mark Colon r.0 ≡ Some r.2.0 = ap (after_mark Colon) r.2.1 ∙ after_found Colon r.2.0 in
-    let arrow : after_mark RightArrow r.2.2.0 ≡ Some r.2.2.2.0 = ap (after_mark RightArrow) r.2.2.2.1 ∙ after_found RightArrow r.2.2.2.0 in
+    let arrow : after_mark RightArrow r.2.2.0 ≡ Some r.2.2.2.0 = ap (after_mark RightArrow) r.2.2.2.1
+    ∙ after_found RightArrow r.2.2.2.0 in
     let d : Definition = defined h (closed h.terms (λ o. rewrite p q)) in
     record {
       definition = d;
       rest = y;
       only = ruled_only x h r.0 header plain r.2.0 colon d y
-          (rule_only r.2.0 p r.2.2.0 (pattern_at r.2.0 p r.2.2.0 r.2.2.1 (subst Stops (sym r.2.2.2.1) refl)) r.2.2.2.0 arrow q y
+          (rule_only r.2.0 p r.2.2.0 (pattern_at r.2.0 p r.2.2.0 r.2.2.1 (subst Stops (sym r.2.2.2.1) refl))
+          r.2.2.2.0 arrow q y
           (pattern_at r.2.2.2.0 q y r.2.2.2.2 e.stops) h d refl e.no_condition);
     }
 definition_one (rule_where h p q u) x y r e =
@@ -93,17 +101,21 @@ definition_one (rule_where h p q u) x y r e =
     let header : header_at x ≡ Some (h, r.0) = header_named h x r.0 r.1 t.ends in
     let plain : after_mark Equals r.0 ≡ None = ap (after_mark Equals) r.2.1 in
     let colon : after_mark Colon r.0 ≡ Some r.2.0 = ap (after_mark Colon) r.2.1 ∙ after_found Colon r.2.0 in
-    let arrow : after_mark RightArrow r.2.2.0 ≡ Some r.2.2.2.0 = ap (after_mark RightArrow) r.2.2.2.1 ∙ after_found RightArrow r.2.2.2.0 in
+    let arrow : after_mark RightArrow r.2.2.0 ≡ Some r.2.2.2.0 = ap (after_mark RightArrow) r.2.2.2.1
+    ∙ after_found RightArrow r.2.2.2.0 in
     let z = r.2.2.2.2.2.0 in
     let d : Definition = defined h (closed h.terms (λ o. rewrite_where o p q (core o u))) in
     record {
       definition = d;
       rest = y;
       only = ruled_only x h r.0 header plain r.2.0 colon d y
-          (where_only r.2.0 p r.2.2.0 (pattern_at r.2.0 p r.2.2.0 r.2.2.1 (subst Stops (sym r.2.2.2.1) refl)) r.2.2.2.0 arrow q r.2.2.2.2.0
+          (where_only r.2.0 p r.2.2.0 (pattern_at r.2.0 p r.2.2.0 r.2.2.1 (subst Stops (sym r.2.2.2.1) refl)) r.2.2.2.0
+          arrow q r.2.2.2.2.0
           (pattern_at r.2.2.2.0 q r.2.2.2.2.0 r.2.2.2.2.1 (subst Stops (sym r.2.2.2.2.2.1) refl))
-          z r.2.2.2.2.2.1 (core Run u) y (choice_at u z y r.2.2.2.2.2.2 e.stops) h (free_variables h.terms (rewrite_where Written p q (core Written u)))
-          (λ w k. ap (λ s. free_variables h.terms (rewrite_where Written p q s)) (one_written (take (length z - length y) z) u w (choice_alone u z y r.2.2.2.2.2.2) k))
+          z r.2.2.2.2.2.1 (core Run u) y (choice_at u z y r.2.2.2.2.2.2 e.stops) h
+          (free_variables h.terms (rewrite_where Written p q (core Written u)))
+          (λ w k. ap (λ s. free_variables h.terms (rewrite_where Written p q s))
+          (one_written (take (length z - length y) z) u w (choice_alone u z y r.2.2.2.2.2.2) k))
           d refl);
     }
 
@@ -116,7 +128,8 @@ some-is : (q r : Context) → ◌≡◌ {A = Option Context} (Some q) (Some r) �
 some-is q r e = cc
 
 module _ (n : ℕ) (one : LeftOne n) where
-  word_one : (p : Context) (w : Keyword) (x : List Token) (m r : Module) → length x ≤ n → Left p (Reserved w ∷ x) m → Left p (Reserved w ∷ x) r → m ≡ r
+  word_one : (p : Context) (w : Keyword) (x : List Token) (m r : Module) → length x ≤ n → Left p (Reserved w ∷ x) m
+      → Left p (Reserved w ∷ x) r → m ≡ r
   word_one p w x m r le a b =
       let s : WordStep p w x m = word_step p w x m a in
       let t : WordStep p w x r = word_step p w x r b in
@@ -127,26 +140,35 @@ module _ (n : ℕ) (one : LeftOne n) where
   sorts_one x m r le i a b =
       let s : SortStep x m = sort_step x m a i in
       let t : SortStep x r = sort_step x r b i in
-      let both : ◌≡◌ {A = Option (List Token)} (Some t.rest) (Some s.rest) = sym (sort_alone t.sort x t.rest t.reads t.ends.round t.ends.star) ∙ sort_alone s.sort x s.rest s.reads s.ends.round s.ends.star in
+      let both : ◌≡◌ {A = Option (List Token)} (Some t.rest) (Some s.rest) =
+      sym (sort_alone t.sort x t.rest t.reads t.ends.round t.ends.star)
+      ∙ sort_alone s.sort x s.rest s.reads s.ends.round s.ends.star in
       let same : t.rest ≡ s.rest = cc in
       let less : length s.rest < length x = sort_shorter s.sort x s.rest s.reads in
       one Sorts s.rest m r (omega arith) s.left (subst (λ l. SortsLeft l r) same t.left)
 
-  declared-pair : (a b : List Constructor) (y z : List Token) → ◌≡◌ {A = DeclaredLeft} (Some (a, y)) (Some (b, z)) → ◌≡◌ {A = List Constructor × List Token} (a, y) (b, z)
+  declared-pair : (a b : List Constructor) (y z : List Token) → ◌≡◌ {A = DeclaredLeft} (Some (a, y)) (Some (b, z))
+      → ◌≡◌ {A = List Constructor × List Token} (a, y) (b, z)
   declared-pair a b y z e = cc
 
-  declarations_one : (x : List Token) (m r : Module) → length x ≤ suc n → IsItem x → DeclarationsLeft x m → DeclarationsLeft x r → m ≡ r
+  declarations_one : (x : List Token) (m r : Module) → length x ≤ suc n → IsItem x → DeclarationsLeft x m
+      → DeclarationsLeft x r → m ≡ r
   declarations_one x m r le i a b =
       let s : DeclarationStep x m = declaration_step x m a i in
       let t : DeclarationStep x r = declaration_step x r b i in
-      let both : ◌≡◌ {A = List Constructor × List Token} (declared t.declaration, t.rest) (declared s.declaration, s.rest) =
+      let both : ◌≡◌ {A = List Constructor × List Token} (declared t.declaration, t.rest)
+      (declared s.declaration, s.rest) =
       declared-pair (declared t.declaration) (declared s.declaration) t.rest s.rest
-      (sym (declaration_named t.declaration x t.rest t.reads t.ends) ∙ declaration_named s.declaration x s.rest s.reads s.ends) in
+      (sym (declaration_named t.declaration x t.rest t.reads t.ends)
+      ∙ declaration_named s.declaration x s.rest s.reads s.ends) in
       let less : length s.rest < length x = declaration_shorter s.declaration x s.rest s.reads in
-      let same : s.after ≡ t.after = one Constructors s.rest s.after t.after (omega arith) s.left (subst (λ l. DeclarationsLeft l t.after) (ap (λ (q : List Constructor × List Token). q.1) both) t.left) in
-      sym s.gives ∙ ap (joined (declared s.declaration) []) same ∙ ap (λ l. joined l [] t.after) (sym (ap (λ (q : List Constructor × List Token). q.0) both)) ∙ t.gives
+      let same : s.after ≡ t.after = one Constructors s.rest s.after t.after (omega arith) s.left
+      (subst (λ l. DeclarationsLeft l t.after) (ap (λ (q : List Constructor × List Token). q.1) both) t.left) in
+      sym s.gives ∙ ap (joined (declared s.declaration) []) same
+      ∙ ap (λ l. joined l [] t.after) (sym (ap (λ (q : List Constructor × List Token). q.0) both)) ∙ t.gives
 
-  definitions_one : (x : List Token) (m r : Module) → length x ≤ suc n → IsItem x → DefinitionsLeft x m → DefinitionsLeft x r → m ≡ r
+  definitions_one : (x : List Token) (m r : Module) → length x ≤ suc n → IsItem x → DefinitionsLeft x m
+      → DefinitionsLeft x r → m ≡ r
   definitions_one x m r le i a b =
       let s : DefinitionStep x m = definition_step x m a i in
       let t : DefinitionStep x r = definition_step x r b i in
@@ -154,17 +176,21 @@ module _ (n : ℕ) (one : LeftOne n) where
       let first = o.only s.definition s.rest s.reads s.ends in
       let second = o.only t.definition t.rest t.reads t.ends in
       let less : length s.rest < length x = defined_shorter s.definition x s.rest s.reads in
-      let same : s.after ≡ t.after = one Definitions s.rest s.after t.after (omega arith) s.left (subst (λ l. DefinitionsLeft l t.after) (second.1 ∙ sym first.1) t.left) in
-      sym s.gives ∙ ap (joined [] (core_definition s.definition ∷ [])) same ∙ ap (λ l. joined [] (l ∷ []) t.after) (first.0 ∙ sym second.0) ∙ t.gives
+      let same : s.after ≡ t.after = one Definitions s.rest s.after t.after (omega arith) s.left
+      (subst (λ l. DefinitionsLeft l t.after) (second.1 ∙ sym first.1) t.left) in
+      sym s.gives ∙ ap (joined [] (core_definition s.definition ∷ [])) same
+      ∙ ap (λ l. joined [] (l ∷ []) t.after) (first.0 ∙ sym second.0) ∙ t.gives
 
-  item_one : (p : Context) (x : List Token) (m r : Module) → length x ≤ suc n → IsItem x → Left p x m → Left p x r → m ≡ r
+  item_one : (p : Context) (x : List Token) (m r : Module) → length x ≤ suc n → IsItem x → Left p x m
+      → Left p x r → m ≡ r
   item_one Outside x m r le i a b = absurd (outside_item x m a i)
   item_one InSignature x m r le i a b = absurd (signature_item x m a i)
   item_one Sorts x m r le i a b = sorts_one x m r le i a b
   item_one Constructors x m r le i a b = declarations_one x m r le i a b
   item_one Definitions x m r le i a b = definitions_one x m r le i a b
 
-  token_one : (p : Context) (t : Token) (ts : List Token) (m r : Module) → length (t ∷ ts) ≤ suc n → Left p (t ∷ ts) m → Left p (t ∷ ts) r → m ≡ r
+  token_one : (p : Context) (t : Token) (ts : List Token) (m r : Module) → length (t ∷ ts) ≤ suc n → Left p (t ∷ ts) m
+      → Left p (t ∷ ts) r → m ≡ r
   token_one p (Reserved w) ts m r le a b = word_one p w ts m r (omega arith) a b
   token_one p (Ident f) ts m r le a b = item_one p (Ident f ∷ ts) m r le tt a b
   token_one p Wildcard ts m r le a b = item_one p (Wildcard ∷ ts) m r le tt a b
@@ -186,7 +212,8 @@ title_is x y m r e a b =
     let same : t.1 ≡ s.1 = cc in
     left_one (length s.1) Outside s.1 m r (omega arith) s.3 (subst (λ l. SectionsLeft l r) same t.3)
 
-plain_is : (x : List Token) (m r : Module) → ((y : List Token) → x ≡ Reserved KModule ∷ y → ⊥) → GivesModule x m → GivesModule x r → m ≡ r
+plain_is : (x : List Token) (m r : Module) → ((y : List Token) → x ≡ Reserved KModule ∷ y → ⊥) → GivesModule x m
+    → GivesModule x r → m ≡ r
 plain_is x m r h a b = left_one (length x) Outside x m r (omega arith) (untitled_forth x m h a) (untitled_forth x r h b)
 
 pub one_module : (x : List Token) (m r : Module) → GivesModule x m → GivesModule x r → m ≡ r

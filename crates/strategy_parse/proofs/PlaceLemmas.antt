@@ -75,7 +75,8 @@ part_rest Left = (ASign RightArrow ∷ (Wildcard ∷ []), refl, (Wildcard ∷ []
 part_rest Right = ([], tt, inl (end_here Definitions))
 
 -- after a whole sort
-sorts_after : (u : SortUse) → (y : List Token) × AfterSorts u 1 y × (sorts_from Closed 0 1 y ≡ Some (1, y)) × (sorts_from Named 0 1 y ≡ Some (1, y))
+sorts_after : (u : SortUse) → (y : List Token) × AfterSorts u 1 y × (sorts_from Closed 0 1 y ≡ Some (1, y))
+    × (sorts_from Named 0 1 y ≡ Some (1, y))
 sorts_after Item = ([], (refl, end_here Sorts), refl, refl)
 sorts_after Own = ([], (refl, end_here Constructors), refl, refl)
 sorts_after Constant = ([], inr (refl, end_here Constructors), refl, refl)
@@ -106,14 +107,29 @@ pub place_rest : (p : ModulePlace) → (x : List Token) × Rest p x
 place_rest place.Start = ([], (core_module [], ([], ([], inr refl, refl), refl)))
 place_rest place.Titled = (Ident some_name ∷ [], (some_name, [], refl, end_here Outside))
 place_rest (place.Between p) = ([], end_here p)
-place_rest place.Declared = let s : SortsRest Constant Begins 0 = sorts_rest Constant Begins 0 in (ASign Colon ∷ s.0, (s.0, refl, s.1))
+place_rest place.Declared = let s : SortsRest Constant Begins 0 = sorts_rest Constant Begins 0 in
+    (ASign Colon ∷ s.0, (s.0, refl, s.1))
 place_rest (place.Sort u p d) = sorts_rest u p d
-place_rest place.Header = (ASign Equals ∷ (Reserved Id ∷ []), ([], [], ASign Equals ∷ (Reserved Id ∷ []), inr (refl, refl, refl), header_rest))
-place_rest (place.FirstName b) = (ASign CloseRound ∷ (ASign Equals ∷ (Reserved Id ∷ [])), ([], CloseRound, ASign Equals ∷ (Reserved Id ∷ []), refl, inl (refl, header_rest)))
-place_rest (place.Name b) = (ASign CloseRound ∷ (ASign Equals ∷ (Reserved Id ∷ [])), ([], CloseRound, ASign Equals ∷ (Reserved Id ∷ []), refl, inl (refl, header_rest)))
+place_rest place.Header = (
+  ASign Equals ∷ (Reserved Id ∷ []),
+  ([], [], ASign Equals ∷ (Reserved Id ∷ []), inr (refl, refl, refl), header_rest),
+)
+place_rest (place.FirstName b) = (
+  ASign CloseRound ∷ (ASign Equals ∷ (Reserved Id ∷ [])),
+  ([], CloseRound, ASign Equals ∷ (Reserved Id ∷ []), refl, inl (refl, header_rest)),
+)
+place_rest (place.Name b) = (
+  ASign CloseRound ∷ (ASign Equals ∷ (Reserved Id ∷ [])),
+  ([], CloseRound, ASign Equals ∷ (Reserved Id ∷ []), refl, inl (refl, header_rest)),
+)
 place_rest (place.Comma b) = (
   Ident some_name ∷ (ASign CloseRound ∷ (ASign Equals ∷ (Reserved Id ∷ []))),
-  (some_name, ASign CloseRound ∷ (ASign Equals ∷ (Reserved Id ∷ [])), refl, ([], CloseRound, ASign Equals ∷ (Reserved Id ∷ []), refl, inl (refl, header_rest))),
+  (
+    some_name,
+    ASign CloseRound ∷ (ASign Equals ∷ (Reserved Id ∷ [])),
+    refl,
+    ([], CloseRound, ASign Equals ∷ (Reserved Id ∷ []), refl, inl (refl, header_rest)),
+  ),
 )
 place_rest place.Headed = (ASign Equals ∷ (Reserved Id ∷ []), header_rest)
 place_rest (place.Body k) = let r = part_rest k in (r.0, r.2)
@@ -144,7 +160,8 @@ item_opens : (n : ℕ) (p : Context) (t : Token) → Opens n (item p t)
 item_opens n Outside t = tt
 item_opens n InSignature t = tt
 item_opens n Sorts t = named_opens n (place.Sort Item Named 0) t (none n)
-item_opens n Constructors t = either n (is_mark Colon t) (Some (place.Sort Argument Begins 0)) (named place.Declared t) (none n) (named_opens n place.Declared t (none n))
+item_opens n Constructors t = either n (is_mark Colon t) (Some (place.Sort Argument Begins 0)) (named place.Declared t)
+    (none n) (named_opens n place.Declared t (none n))
 item_opens n Definitions t = named_opens n place.Header t (none n)
 
 part_opens : (n : ℕ) (o : Option Context) → Opens n (part o)
@@ -162,7 +179,8 @@ between_opens n p Bad = item_opens n p Bad
 
 separated_opens : (n : ℕ) (t : Token) (o : Option ModulePlace) → Opens n o → Opens n (separated t o)
 separated_opens n t o h =
-    either n (is_mark Star t) (Some (place.Sort Argument Begins 0)) (if (is_mark RightArrow t) then Some (place.Sort Own Begins 0) else o) (none n)
+    either n (is_mark Star t) (Some (place.Sort Argument Begins 0))
+    (if (is_mark RightArrow t) then Some (place.Sort Own Begins 0) else o) (none n)
     (either n (is_mark RightArrow t) (Some (place.Sort Own Begins 0)) o (none n) h)
 
 ended_opens : (n : ℕ) (u : SortUse) (t : Token) → Opens n (sort_ended u t)
@@ -171,14 +189,16 @@ ended_opens n Own t = between_opens n Constructors t
 ended_opens n Constant t = separated_opens n t (between Constructors t) (between_opens n Constructors t)
 ended_opens n Argument t = separated_opens n t None tt
 
-sort_opens : (u : SortUse) (p : SortState) (d : ℕ) (t : Token) (o : Turn) → o ≡ sort_step p d t → Opens (d + 1) (sort_next u t o)
+sort_opens : (u : SortUse) (p : SortState) (d : ℕ) (t : Token) (o : Turn) → o ≡ sort_step p d t
+    → Opens (d + 1) (sort_next u t o)
 sort_opens u p d t (Reads q e) h = sorts_depth p q d e t h
 sort_opens u p d t Ends h = ended_opens (d + 1) u t
 sort_opens u p d t Stuck h = tt
 
 header_opens : (n : ℕ) (t : Token) → Opens n (after_header t)
 header_opens n t =
-    either n (is_mark Equals t) (Some (place.Body Body)) (if (is_mark Colon t) then Some (place.Body Left) else None) (none n)
+    either n (is_mark Equals t) (Some (place.Body Body))
+    (if (is_mark Colon t) then Some (place.Body Left) else None) (none n)
     (either n (is_mark Colon t) (Some (place.Body Left)) None (none n) tt)
 
 terms_opens : (n : ℕ) (b : Parameters) → Opens n (terms_next b)
@@ -202,17 +222,21 @@ first_opens n b Bad = names_opens n b Bad
 after_opens : (n : ℕ) (k : BodyPart) (t : Token) → Opens n (after_part k t)
 after_opens n Body t = between_opens n Definitions t
 after_opens n Left t = either n (is_mark RightArrow t) (Some (place.Body Right)) None (none n) tt
-after_opens n Right t = either n (is_word Where t) (Some (place.Body Body)) (between Definitions t) (none n) (between_opens n Definitions t)
+after_opens n Right t =
+    either n (is_word Where t) (Some (place.Body Body)) (between Definitions t) (none n) (between_opens n Definitions t)
 
 next_opens : (p : ModulePlace) (t : Token) → Opens (open_brackets p + 1) (next_place p t)
-next_opens place.Start t = either 1 (is_word Module t) (Some place.Titled) (between Outside t) (none 1) (between_opens 1 Outside t)
+next_opens place.Start t =
+    either 1 (is_word Module t) (Some place.Titled) (between Outside t) (none 1) (between_opens 1 Outside t)
 next_opens place.Titled t = named_opens 1 (place.Between Outside) t (none 1)
 next_opens (place.Between p) t = between_opens 1 p t
 next_opens place.Declared t = either 1 (is_mark Colon t) (Some (place.Sort Constant Begins 0)) None (none 1) tt
 next_opens (place.Sort u p d) t = sort_opens u p d t (sort_step p d t) refl
-next_opens place.Header t = either 1 (is_mark OpenRound t) (Some (place.FirstName Strategies)) (after_header t) (none 1) (header_opens 1 t)
+next_opens place.Header t =
+    either 1 (is_mark OpenRound t) (Some (place.FirstName Strategies)) (after_header t) (none 1) (header_opens 1 t)
 next_opens (place.FirstName b) t = first_opens 1 b t
-next_opens (place.Name b) t = either 1 (is_mark Comma t) (Some (place.Comma b)) (after_names b t) (none 1) (names_opens 1 b t)
+next_opens (place.Name b) t =
+    either 1 (is_mark Comma t) (Some (place.Comma b)) (after_names b t) (none 1) (names_opens 1 b t)
 next_opens (place.Comma b) t = named_opens 1 (place.Name b) t (none 1)
 next_opens place.Headed t = header_opens 1 t
 next_opens (place.Body k) t = after_opens 1 k t

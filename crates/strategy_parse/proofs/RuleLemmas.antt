@@ -44,10 +44,12 @@ where_stops : (y z : List Token) → y ≡ Reserved Where ∷ z → Stops y
 where_stops y z e = subst Stops (sym e) refl
 
 no_after : (m : Sign) (x y : List Token) → after_mark m x ≡ None → x ≡ ASign m ∷ y → ⊥
-no_after m x y e h = let no : ◌≡◌ {A = Option (List Token)} None (Some y) = sym e ∙ ap (after_mark m) h ∙ after_found m y in cc
+no_after m x y e h = let no : ◌≡◌ {A = Option (List Token)} None (Some y) = sym e ∙ ap (after_mark m) h
+    ∙ after_found m y in cc
 
 same_after : (m : Sign) (x y z : List Token) → after_mark m x ≡ Some z → x ≡ ASign m ∷ y → y ≡ z
-same_after m x y z e h = let same : ◌≡◌ {A = Option (List Token)} (Some y) (Some z) = sym (after_found m y) ∙ ap (after_mark m) (sym h) ∙ e in cc
+same_after m x y z e h = let same : ◌≡◌ {A = Option (List Token)} (Some y) (Some z) = sym (after_found m y)
+    ∙ ap (after_mark m) (sym h) ∙ e in cc
 
 -- ---- the patterns of a rule, and the rest
 
@@ -100,10 +102,12 @@ module _ (x : List Token) (p : Pattern) (a : List Token) (at_left : PatternAt x 
 
     module _ (q : Pattern) (c : List Token) (at_right : PatternAt b q c) where
       both_are : (w : Defined) (y : List Token) → (t : Patterns w x y) → (t.right ≡ q) × (t.after_right ≡ c)
-      both_are w y t = at_right.only t.right t.after_right (subst (λ l. ReadsPattern t.right l t.after_right) (right_is w y t) t.reads_right) t.stops
+      both_are w y t = at_right.only t.right t.after_right
+          (subst (λ l. ReadsPattern t.right l t.after_right) (right_is w y t) t.reads_right) t.stops
 
       -- both patterns were read, and no condition follows
-      pub rule_gives : (h : Header) (d : Definition) → d ≡ defined h (closed h.terms (λ o. rewrite p q)) → RuleGives h x d c
+      pub rule_gives : (h : Header) (d : Definition) → d ≡ defined h (closed h.terms (λ o. rewrite p q))
+          → RuleGives h x d c
       rule_gives h d e = record {
         written = rule h p q;
         header = refl;
@@ -111,15 +115,19 @@ module _ (x : List Token) (p : Pattern) (a : List Token) (at_left : PatternAt x 
         is = sym e;
       }
 
-      same_rule : (h k : Header) (l r : Pattern) → k ≡ h → l ≡ p → r ≡ q → core_definition (rule k l r) ≡ core_definition (rule h p q)
+      same_rule : (h k : Header) (l r : Pattern)
+          → k ≡ h → l ≡ p → r ≡ q → core_definition (rule k l r) ≡ core_definition (rule h p q)
       same_rule h k l r e f g = λ i. core_definition (rule (e i) (f i) (g i))
 
       pub rule_only : (h : Header) (d : Definition) → d ≡ defined h (closed h.terms (λ o. rewrite p q))
-          → is_word Where (next_token c) ≡ false → (w : Defined) (y : List Token) → header_of w ≡ h → ReadsRule w x y → DefinitionEnds y → (core_definition w ≡ d) × (y ≡ c)
+          → is_word Where (next_token c) ≡ false → (w : Defined) (y : List Token) → header_of w ≡ h → ReadsRule w x y
+          → DefinitionEnds y → (core_definition w ≡ d) × (y ≡ c)
       rule_only h d e none (definition k s) y f r ends = absurd r
       rule_only h d e none (rule k l s) y f r ends =
-          let t : Patterns (rule k l s) x y = patterns_of (rule k l s) x y r ends in
-          (same_rule h k l s f (left_is (rule k l s) y t).0 (both_are (rule k l s) y t).0 ∙ sym e, (both_are (rule k l s) y t).1)
+          let t : Patterns (rule k l s) x y = patterns_of (rule k l s) x y r ends in (
+            same_rule h k l s f (left_is (rule k l s) y t).0 (both_are (rule k l s) y t).0 ∙ sym e,
+            (both_are (rule k l s) y t).1,
+          )
       rule_only h d e none (rule_where k l s u) y f r ends =
           let t : Patterns (rule_where k l s u) x y = patterns_of (rule_where k l s u) x y r ends in
           let front : c ≡ Reserved Where ∷ r.2.2.2.0 = sym (both_are (rule_where k l s u) y t).1 ∙ r.2.2.2.1 in
@@ -132,7 +140,8 @@ module _ (x : List Token) (p : Pattern) (a : List Token) (at_left : PatternAt x 
         rest-is m n e f = let same : Reserved Where ∷ m ≡ Reserved Where ∷ n = sym e ∙ f in cc
 
         no_plain : (y : List Token) → y ≡ c → DefinitionEnds y → ⊥
-        no_plain y e ends = let no : true ≡ false = sym (ap (λ l. is_word Where (next_token l)) (e ∙ word)) ∙ ends.no_condition in cc
+        no_plain y e ends = let no : true ≡ false =
+            sym (ap (λ l. is_word Where (next_token l)) (e ∙ word)) ∙ ends.no_condition in cc
 
         pub no_condition : NoChoice z → NoRule x
         no_condition none (definition k s) y r ends = absurd r
@@ -141,42 +150,54 @@ module _ (x : List Token) (p : Pattern) (a : List Token) (at_left : PatternAt x 
             no_plain y (both_are (rule k l s) y t).1 ends
         no_condition none (rule_where k l s u) y r ends =
             let t : Patterns (rule_where k l s u) x y = patterns_of (rule_where k l s u) x y r ends in
-            let at_z : r.2.2.2.0 ≡ z = rest-is r.2.2.2.0 z (sym (both_are (rule_where k l s u) y t).1 ∙ r.2.2.2.1) word in
+            let at_z : r.2.2.2.0 ≡ z =
+            rest-is r.2.2.2.0 z (sym (both_are (rule_where k l s u) y t).1 ∙ r.2.2.2.1) word in
             none u y (subst (λ m. ReadsChoice u m y) at_z r.2.2.2.2) ends.stops
 
         -- the code reads the condition's tokens once more, in the order of the text
-        pub no_order : (s : Strategy) (v : List Token) → ChoiceAt z s v → ((u : Choice) → ReadsChoice u (take (length z - length v) z) [] → ⊥) → ⊥
+        pub no_order : (s : Strategy) (v : List Token) → ChoiceAt z s v
+            → ((u : Choice) → ReadsChoice u (take (length z - length v) z) [] → ⊥) → ⊥
         no_order s v at_choice none = none at_choice.given.0 (choice_alone at_choice.given.0 z v at_choice.given.1)
 
         module _ (s : Strategy) (v : List Token) (at_choice : ChoiceAt z s v) (h : Header) (xs : List Symbol)
-            (names : (u : Choice) → ReadsChoice u (take (length z - length v) z) [] → xs ≡ free_variables h.terms (rewrite_where Written p q (core Written u)))
+            (names : (u : Choice) → ReadsChoice u (take (length z - length v) z) []
+            → xs ≡ free_variables h.terms (rewrite_where Written p q (core Written u)))
             (d : Definition) (is : d ≡ defined h (scope xs (rewrite_where Run p q s))) where
           -- whatever choice is read there
           same_form : (u : Choice) → ReadsChoice u z v → core Run u ≡ s → core_definition (rule_where h p q u) ≡ d
-          same_form u r o = (λ i. defined h (scope (sym (names u (choice_alone u z v r)) i) (rewrite_where Run p q (o i)))) ∙ sym is
+          same_form u r o =
+              (λ i. defined h (scope (sym (names u (choice_alone u z v r)) i) (rewrite_where Run p q (o i)))) ∙ sym is
 
           pub where_gives : RuleGives h x d v
           where_gives = record {
             written = rule_where h p q at_choice.given.0;
             header = refl;
-            reads = (a, at_left.given, (b, mark_found RightArrow a b arrow, (c, at_right.given, (z, word, at_choice.given.1))));
+            reads = (
+              a,
+              at_left.given,
+              (b, mark_found RightArrow a b arrow, (c, at_right.given, (z, word, at_choice.given.1))),
+            );
             is = same_form at_choice.given.0 at_choice.given.1 at_choice.given.2;
           }
 
-          same_where : (k : Header) (l r : Pattern) (u : Choice) → k ≡ h → l ≡ p → r ≡ q → core_definition (rule_where k l r u) ≡ core_definition (rule_where h p q u)
+          same_where : (k : Header) (l r : Pattern) (u : Choice)
+              → k ≡ h → l ≡ p → r ≡ q → core_definition (rule_where k l r u) ≡ core_definition (rule_where h p q u)
           same_where k l r u e f g = λ i. core_definition (rule_where (e i) (f i) (g i) u)
 
-          pub where_only : (w : Defined) (y : List Token) → header_of w ≡ h → ReadsRule w x y → DefinitionEnds y → (core_definition w ≡ d) × (y ≡ v)
+          pub where_only : (w : Defined) (y : List Token) → header_of w ≡ h → ReadsRule w x y → DefinitionEnds y
+              → (core_definition w ≡ d) × (y ≡ v)
           where_only (definition k t) y f r ends = absurd r
           where_only (rule k l t) y f r ends =
               let m : Patterns (rule k l t) x y = patterns_of (rule k l t) x y r ends in
               absurd (no_plain y (both_are (rule k l t) y m).1 ends)
           where_only (rule_where k l t u) y f r ends =
               let m : Patterns (rule_where k l t u) x y = patterns_of (rule_where k l t u) x y r ends in
-              let at_z : r.2.2.2.0 ≡ z = rest-is r.2.2.2.0 z (sym (both_are (rule_where k l t u) y m).1 ∙ r.2.2.2.1) word in
+              let at_z : r.2.2.2.0 ≡ z =
+              rest-is r.2.2.2.0 z (sym (both_are (rule_where k l t u) y m).1 ∙ r.2.2.2.1) word in
               let reads : ReadsChoice u z y = subst (λ n. ReadsChoice u n y) at_z r.2.2.2.2 in
               let only = at_choice.only u y reads ends.stops in (
-                same_where k l t u f (left_is (rule_where k l t u) y m).0 (both_are (rule_where k l t u) y m).0 ∙ same_form u (subst (ReadsChoice u z) only.1 reads) only.0,
+                same_where k l t u f (left_is (rule_where k l t u) y m).0 (both_are (rule_where k l t u) y m).0
+                    ∙ same_form u (subst (ReadsChoice u z) only.1 reads) only.0,
                 only.1,
               )
 
@@ -185,7 +206,8 @@ module _ (x : List Token) (p : Pattern) (a : List Token) (at_left : PatternAt x 
 pub record HeaderAt (x : List Token) (h : Header) (a : List Token) : Type 0 where
   pub is : header_at x ≡ Some (h, a)
 
-pub header_stops : (m : Sign) (y z : List Token) → y ≡ ASign m ∷ z → is_mark OpenRound (ASign m) ≡ false → NoMark OpenRound y
+pub header_stops : (m : Sign) (y z : List Token)
+    → y ≡ ASign m ∷ z → is_mark OpenRound (ASign m) ≡ false → NoMark OpenRound y
 header_stops m y z e h = ap (λ l. is_mark OpenRound (next_token l)) e ∙ h
 
 abbrev pub NoDefinition : List Token → Type 0
@@ -205,12 +227,15 @@ headed (rule_where h p q a) x y r = record { after = r.0; reads = r.1; ends = he
 pub no_header : (x : List Token) → header_at x ≡ None → NoDefinition x
 no_header x none w y r e =
     let t : Headed w x y = headed w x y r in
-    let no : ◌≡◌ {A = HeaderLeft} None (Some (header_of w, t.after)) = sym none ∙ header_named (header_of w) x t.after t.reads t.ends in
+    let no : ◌≡◌ {A = HeaderLeft} None (Some (header_of w, t.after)) = sym none
+    ∙ header_named (header_of w) x t.after t.reads t.ends in
     cc
 
 module _ (x : List Token) (h : Header) (a : List Token) (at_header : header_at x ≡ Some (h, a)) where
-  both : (w : Defined) (y : List Token) → (t : Headed w x y) → ◌≡◌ {A = Header × List Token} (header_of w, t.after) (h, a)
-  both w y t = let same : ◌≡◌ {A = HeaderLeft} (Some (header_of w, t.after)) (Some (h, a)) = sym (header_named (header_of w) x t.after t.reads t.ends) ∙ at_header in cc
+  both : (w : Defined) (y : List Token) → (t : Headed w x y)
+      → ◌≡◌ {A = Header × List Token} (header_of w, t.after) (h, a)
+  both w y t = let same : ◌≡◌ {A = HeaderLeft} (Some (header_of w, t.after)) (Some (h, a)) =
+      sym (header_named (header_of w) x t.after t.reads t.ends) ∙ at_header in cc
 
   header_is : (w : Defined) (y : List Token) → (t : Headed w x y) → header_of w ≡ h
   header_is w y t = ap (λ (q : Header × List Token). q.0) (both w y t)
@@ -226,22 +251,26 @@ module _ (x : List Token) (h : Header) (a : List Token) (at_header : header_at x
     no_rule : (w : Defined) (z y : List Token) → (t : Headed w x y) → t.after ≡ ASign Colon ∷ z → ⊥
     no_rule w z y t e = let no : ASign Equals ∷ b ≡ ASign Colon ∷ z = sym equals_is ∙ sym (after_is w y t) ∙ e in cc
 
-    pub body_gives : (s : Strategy) (y : List Token) (d : Definition) → FrontGives b s y → d ≡ defined h s → DefinitionGives x d y
+    pub body_gives : (s : Strategy) (y : List Token) (d : Definition) → FrontGives b s y → d ≡ defined h s
+        → DefinitionGives x d y
     body_gives s y d g e = record {
       written = definition h g.0;
       reads = (a, header_found x h a at_header, (b, equals_is, g.1));
       is = ap (defined h) g.2 ∙ sym e;
     }
 
-    pub body_only : (s : Strategy) (v : List Token) (d : Definition) → ((u : Choice) (y : List Token) → ReadsChoice u b y → Stops y → (core Run u ≡ s) × (y ≡ v)) → d ≡ defined h s
+    pub body_only : (s : Strategy) (v : List Token) (d : Definition)
+        → ((u : Choice) (y : List Token) → ReadsChoice u b y → Stops y → (core Run u ≡ s) × (y ≡ v)) → d ≡ defined h s
         → (w : Defined) (y : List Token) → ReadsDefined w x y → DefinitionEnds y → (core_definition w ≡ d) × (y ≡ v)
     body_only s v d only e (definition k u) y r ends =
         let t : Headed (definition k u) x y = headed (definition k u) x y r in
         let at_b : r.2.0 ≡ b = same_after Equals a r.2.0 b sign (sym (after_is (definition k u) y t) ∙ r.2.1) in
         let o = only u y (subst (λ l. ReadsChoice u l y) at_b r.2.2) ends.stops in
         ((λ i. defined (header_is (definition k u) y t i) (o.0 i)) ∙ sym e, o.1)
-    body_only s v d only e (rule k p q) y r ends = absurd (no_rule (rule k p q) r.2.0 y (headed (rule k p q) x y r) r.2.1)
-    body_only s v d only e (rule_where k p q u) y r ends = absurd (no_rule (rule_where k p q u) r.2.0 y (headed (rule_where k p q u) x y r) r.2.1)
+    body_only s v d only e (rule k p q) y r ends =
+        absurd (no_rule (rule k p q) r.2.0 y (headed (rule k p q) x y r) r.2.1)
+    body_only s v d only e (rule_where k p q u) y r ends =
+        absurd (no_rule (rule_where k p q u) r.2.0 y (headed (rule_where k p q u) x y r) r.2.1)
 
     pub no_body : ((u : Choice) (y : List Token) → ReadsChoice u b y → Stops y → ⊥) → NoDefinition x
     no_body none (definition k u) y r ends =
@@ -249,7 +278,8 @@ module _ (x : List Token) (h : Header) (a : List Token) (at_header : header_at x
         let at_b : r.2.0 ≡ b = same_after Equals a r.2.0 b sign (sym (after_is (definition k u) y t) ∙ r.2.1) in
         none u y (subst (λ l. ReadsChoice u l y) at_b r.2.2) ends.stops
     no_body none (rule k p q) y r ends = no_rule (rule k p q) r.2.0 y (headed (rule k p q) x y r) r.2.1
-    no_body none (rule_where k p q u) y r ends = no_rule (rule_where k p q u) r.2.0 y (headed (rule_where k p q u) x y r) r.2.1
+    no_body none (rule_where k p q u) y r ends =
+        no_rule (rule_where k p q u) r.2.0 y (headed (rule_where k p q u) x y r) r.2.1
 
   -- no `=` follows
   module _ (plain : after_mark Equals a ≡ None) where
@@ -258,8 +288,10 @@ module _ (x : List Token) (h : Header) (a : List Token) (at_header : header_at x
 
     pub no_colon : after_mark Colon a ≡ None → NoDefinition x
     no_colon none (definition k u) y r ends = no_equals (definition k u) r.2.0 y (headed (definition k u) x y r) r.2.1
-    no_colon none (rule k p q) y r ends = no_after Colon a r.2.0 none (sym (after_is (rule k p q) y (headed (rule k p q) x y r)) ∙ r.2.1)
-    no_colon none (rule_where k p q u) y r ends = no_after Colon a r.2.0 none (sym (after_is (rule_where k p q u) y (headed (rule_where k p q u) x y r)) ∙ r.2.1)
+    no_colon none (rule k p q) y r ends =
+        no_after Colon a r.2.0 none (sym (after_is (rule k p q) y (headed (rule k p q) x y r)) ∙ r.2.1)
+    no_colon none (rule_where k p q u) y r ends =
+        no_after Colon a r.2.0 none (sym (after_is (rule_where k p q u) y (headed (rule_where k p q u) x y r)) ∙ r.2.1)
 
     module _ (b : List Token) (colon : after_mark Colon a ≡ Some b) where
       -- the rule after the colon
@@ -273,24 +305,29 @@ module _ (x : List Token) (h : Header) (a : List Token) (at_header : header_at x
           let t : Headed (rule k p q) x y = headed (rule k p q) x y r in
           record {
             header = header_is (rule k p q) y t;
-            reads = subst (λ l. ReadsRule (rule k p q) l y) (same_after Colon a r.2.0 b colon (sym (after_is (rule k p q) y t) ∙ r.2.1)) r.2.2;
+            reads = subst (λ l. ReadsRule (rule k p q) l y)
+                (same_after Colon a r.2.0 b colon (sym (after_is (rule k p q) y t) ∙ r.2.1)) r.2.2;
           }
       ruled (rule_where k p q u) y r =
           let t : Headed (rule_where k p q u) x y = headed (rule_where k p q u) x y r in
           record {
             header = header_is (rule_where k p q u) y t;
-            reads = subst (λ l. ReadsRule (rule_where k p q u) l y) (same_after Colon a r.2.0 b colon (sym (after_is (rule_where k p q u) y t) ∙ r.2.1)) r.2.2;
+            reads = subst (λ l. ReadsRule (rule_where k p q u) l y)
+                (same_after Colon a r.2.0 b colon (sym (after_is (rule_where k p q u) y t) ∙ r.2.1)) r.2.2;
           }
 
       defined_by : (w : Defined) (y : List Token) → header_of w ≡ h → ReadsRule w b y → ReadsDefined w x y
       defined_by (definition k u) y e r = absurd r
-      defined_by (rule k p q) y e r = (a, subst (λ l. ReadsHeader l x a) (sym e) (header_found x h a at_header), (b, mark_found Colon a b colon, r))
-      defined_by (rule_where k p q u) y e r = (a, subst (λ l. ReadsHeader l x a) (sym e) (header_found x h a at_header), (b, mark_found Colon a b colon, r))
+      defined_by (rule k p q) y e r =
+          (a, subst (λ l. ReadsHeader l x a) (sym e) (header_found x h a at_header), (b, mark_found Colon a b colon, r))
+      defined_by (rule_where k p q u) y e r =
+          (a, subst (λ l. ReadsHeader l x a) (sym e) (header_found x h a at_header), (b, mark_found Colon a b colon, r))
 
       pub ruled_gives : (d : Definition) (y : List Token) → RuleGives h b d y → DefinitionGives x d y
       ruled_gives d y g = record { written = g.written; reads = defined_by g.written y g.header g.reads; is = g.is }
 
-      pub ruled_only : (d : Definition) (v : List Token) → ((w : Defined) (y : List Token) → header_of w ≡ h → ReadsRule w b y → DefinitionEnds y → (core_definition w ≡ d) × (y ≡ v))
+      pub ruled_only : (d : Definition) (v : List Token) → ((w : Defined) (y : List Token)
+          → header_of w ≡ h → ReadsRule w b y → DefinitionEnds y → (core_definition w ≡ d) × (y ≡ v))
           → (w : Defined) (y : List Token) → ReadsDefined w x y → DefinitionEnds y → (core_definition w ≡ d) × (y ≡ v)
       ruled_only d v only w y r ends = let t : Ruled w y = ruled w y r in only w y t.header t.reads ends
 

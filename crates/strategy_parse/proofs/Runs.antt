@@ -69,7 +69,9 @@ pub record NoEnd (t : Token) : Type 0 where
 
 -- whether the token ends an open form
 abbrev ends_some : Token → Bool
-ends_some t = is_mark CloseRound t || (is_mark CloseSquare t || (is_mark CloseCurly t || (is_mark Comma t || (is_mark Bar t || (is_mark Greater t || (is_mark Backslash t || (is_mark RightArrow t || (is_mark Plus t || (is_word KThen t || (is_word KElse t || (is_word KEnd t || (is_word KWhere t))))))))))))
+ends_some t = is_mark CloseRound t || (is_mark CloseSquare t || (is_mark CloseCurly t
+    || (is_mark Comma t || (is_mark Bar t || (is_mark Greater t || (is_mark Backslash t || (is_mark RightArrow t
+    || (is_mark Plus t || (is_word KThen t || (is_word KElse t || (is_word KEnd t || (is_word KWhere t))))))))))))
 
 neither : (a b : Bool) → (a || b) ≡ false → (a ≡ false) × (b ≡ false)
 neither true b e = absurd (cc)
@@ -89,7 +91,21 @@ no_end t h =
     let e9 = neither _ _ e8.1 in
     let e10 = neither _ _ e9.1 in
     let e11 = neither _ _ e10.1 in
-    record { round = e0.0; square = e1.0; curly = e2.0; comma = e3.0; bar = e4.0; greater = e5.0; backslash = e6.0; arrow = e7.0; plus = e8.0; then_word = e9.0; else_word = e10.0; end_word = e11.0; where_word = e11.1 }
+    record {
+      round = e0.0;
+      square = e1.0;
+      curly = e2.0;
+      comma = e3.0;
+      bar = e4.0;
+      greater = e5.0;
+      backslash = e6.0;
+      arrow = e7.0;
+      plus = e8.0;
+      then_word = e9.0;
+      else_word = e10.0;
+      end_word = e11.0;
+      where_word = e11.1;
+    }
 
 pub open_round : NoEnd (ASign OpenRound)
 open_round = no_end (ASign OpenRound) refl
@@ -199,24 +215,30 @@ module _ (t : Token) (h : NoEnd t) where
 pub none_some : (o : Option Strategy) (r : Strategy) → o ≡ None → o ≡ Some r → ⊥
 none_some o r h k = let no : ◌≡◌ {A = Option Strategy} None (Some r) = sym h ∙ k in cc
 
-skip : (b : Bool) (X Y : Next) (y : List Token) (r : Strategy) → (b ≡ true → Refuses Y) → Goes Y y r → Goes (if b then X else Y) y r
-skip true X Y y r h k = absurd (none_some (go_on (λ q S. resume (step q S) y) Y) r (h refl (λ q S. resume (step q S) y)) k)
+skip : (b : Bool) (X Y : Next) (y : List Token) (r : Strategy) → (b ≡ true → Refuses Y) → Goes Y y r
+    → Goes (if b then X else Y) y r
+skip true X Y y r h k =
+    absurd (none_some (go_on (λ q S. resume (step q S) y) Y) r (h refl (λ q S. resume (step q S) y)) k)
 skip false X Y y r h k = k
 
 -- a test for a sign that f is stuck at changes nothing
-pub passes : (m : Sign) (X : Next) (f : Token → Next) (x : List Token) (r : Strategy) → Refuses (f (ASign m)) → Accepts f x r → Accepts (λ t. if (is_mark m t) then X else f t) x r
+pub passes : (m : Sign) (X : Next) (f : Token → Next) (x : List Token) (r : Strategy) → Refuses (f (ASign m))
+    → Accepts f x r → Accepts (λ t. if (is_mark m t) then X else f t) x r
 passes m X f [] r h k = k
-passes m X f (t ∷ ts) r h k = skip (is_mark m t) X (f t) ts r (λ e. subst (λ u. Refuses (f u)) (sym (mark_is m t e)) h) k
+passes m X f (t ∷ ts) r h k =
+    skip (is_mark m t) X (f t) ts r (λ e. subst (λ u. Refuses (f u)) (sym (mark_is m t e)) h) k
 
 -- the token is the sign, or its effect is that of f
 abbrev pub AtMark : Sign → Next → (Token → Next) → List Token → Strategy → Type 0
 AtMark m X f x r = ((y : List Token) × (x ≡ ASign m ∷ y) × Goes X y r) ⊎ Accepts f x r
 
-by_test : (m : Sign) (X : Next) (f : Token → Next) (t : Token) (ts : List Token) (r : Strategy) (b : Bool) → is_mark m t ≡ b → Goes (if b then X else f t) ts r → AtMark m X f (t ∷ ts) r
+by_test : (m : Sign) (X : Next) (f : Token → Next) (t : Token) (ts : List Token) (r : Strategy) (b : Bool)
+    → is_mark m t ≡ b → Goes (if b then X else f t) ts r → AtMark m X f (t ∷ ts) r
 by_test m X f t ts r true e k = inl (ts, ap (λ u. u ∷ ts) (mark_is m t e), k)
 by_test m X f t ts r false e k = inr k
 
-pub at_mark : (m : Sign) (X : Next) (f : Token → Next) (x : List Token) (r : Strategy) → Accepts (λ t. if (is_mark m t) then X else f t) x r → AtMark m X f x r
+pub at_mark : (m : Sign) (X : Next) (f : Token → Next) (x : List Token) (r : Strategy)
+    → Accepts (λ t. if (is_mark m t) then X else f t) x r → AtMark m X f x r
 at_mark m X f [] r k = inr k
 at_mark m X f (t ∷ ts) r k = by_test m X f t ts r (is_mark m t) refl k
 
@@ -224,11 +246,13 @@ at_mark m X f (t ∷ ts) r k = by_test m X f t ts r (is_mark m t) refl k
 abbrev pub AtWord : Keyword → Next → (Token → Next) → List Token → Strategy → Type 0
 AtWord m X f x r = ((y : List Token) × (x ≡ Reserved m ∷ y) × Goes X y r) ⊎ Accepts f x r
 
-by_word : (m : Keyword) (X : Next) (f : Token → Next) (t : Token) (ts : List Token) (r : Strategy) (b : Bool) → is_word m t ≡ b → Goes (if b then X else f t) ts r → AtWord m X f (t ∷ ts) r
+by_word : (m : Keyword) (X : Next) (f : Token → Next) (t : Token) (ts : List Token) (r : Strategy) (b : Bool)
+    → is_word m t ≡ b → Goes (if b then X else f t) ts r → AtWord m X f (t ∷ ts) r
 by_word m X f t ts r true e k = inl (ts, ap (λ u. u ∷ ts) (word_is m t e), k)
 by_word m X f t ts r false e k = inr k
 
-pub at_word : (m : Keyword) (X : Next) (f : Token → Next) (x : List Token) (r : Strategy) → Accepts (λ t. if (is_word m t) then X else f t) x r → AtWord m X f x r
+pub at_word : (m : Keyword) (X : Next) (f : Token → Next) (x : List Token) (r : Strategy)
+    → Accepts (λ t. if (is_word m t) then X else f t) x r → AtWord m X f x r
 at_word m X f [] r k = inr k
 at_word m X f (t ∷ ts) r k = by_word m X f t ts r (is_word m t) refl k
 
@@ -237,13 +261,15 @@ no_accepts [] r k = cc
 no_accepts (t ∷ ts) r k = cc
 
 -- only one sign is accepted
-pub only_mark : (m : Sign) (X : Next) (x : List Token) (r : Strategy) → Accepts (λ t. if (is_mark m t) then X else stuck) x r → (y : List Token) × (x ≡ ASign m ∷ y) × Goes X y r
+pub only_mark : (m : Sign) (X : Next) (x : List Token) (r : Strategy)
+    → Accepts (λ t. if (is_mark m t) then X else stuck) x r → (y : List Token) × (x ≡ ASign m ∷ y) × Goes X y r
 only_mark m X x r k = elim (at_mark m X (λ t. stuck) x r k) [
   | inl found ↦ found
   | inr other ↦ absurd (no_accepts x r other)
 ]
 
-pub only_word : (m : Keyword) (X : Next) (x : List Token) (r : Strategy) → Accepts (λ t. if (is_word m t) then X else stuck) x r → (y : List Token) × (x ≡ Reserved m ∷ y) × Goes X y r
+pub only_word : (m : Keyword) (X : Next) (x : List Token) (r : Strategy)
+    → Accepts (λ t. if (is_word m t) then X else stuck) x r → (y : List Token) × (x ≡ Reserved m ∷ y) × Goes X y r
 only_word m X x r k = elim (at_word m X (λ t. stuck) x r k) [
   | inl found ↦ found
   | inr other ↦ absurd (no_accepts x r other)

@@ -26,7 +26,8 @@ sections_item (definitions ds ∷ ss) x (v, (a, (inr k), reads), rest) i = item_
 pub outside_item : (x : List Token) (m : Module) → SectionsLeft x m → IsItem x → ⊥
 outside_item x m l i = sections_item l.sections x l.reads i
 
-signatures_item : (ps : List SignaturePart) (x y : List Token) (m : Module) → ReadsAll ReadsSignaturePart ps x y → SectionsLeft y m → IsItem x → ⊥
+signatures_item : (ps : List SignaturePart) (x y : List Token) (m : Module) → ReadsAll ReadsSignaturePart ps x y
+    → SectionsLeft y m → IsItem x → ⊥
 signatures_item [] x y m r l i = outside_item y m l (subst IsItem (sym r) i)
 signatures_item (sorts ss ∷ ps) x y m r l i = item_is x r.1.0 KSorts r.1.1 i
 signatures_item (constructors ds ∷ ps) x y m r l i = item_is x r.1.0 KConstructors r.1.1 i
@@ -36,7 +37,8 @@ signature_item x m l i = signatures_item l.parts x l.rest l.after l.reads l.left
 
 -- what comes next in a module: an identifier, a reserved word that begins a part, or the end
 abbrev WordOrEnd : List Token → Type 0
-WordOrEnd x = ((w : Keyword) × (z : List Token) × (x ≡ Reserved w ∷ z) × (is_word Where (Reserved w) ≡ false)) ⊎ (x ≡ [])
+WordOrEnd x =
+    ((w : Keyword) × (z : List Token) × (x ≡ Reserved w ∷ z) × (is_word Where (Reserved w) ≡ false)) ⊎ (x ≡ [])
 
 sections_front : (ss : List Section) (x : List Token) → ReadsSections ss x → WordOrEnd x
 sections_front [] x r = inr r
@@ -44,7 +46,8 @@ sections_front (signature ps ∷ ss) x r = inl (KSignature, r.1.0, r.1.1, refl)
 sections_front (definitions ds ∷ ss) x (v, (a, (inl k), reads), rest) = inl (Rules, a, k, refl)
 sections_front (definitions ds ∷ ss) x (v, (a, (inr k), reads), rest) = inl (Strategies, a, k, refl)
 
-signature_front : (ps : List SignaturePart) (x y : List Token) (m : Module) → ReadsAll ReadsSignaturePart ps x y → SectionsLeft y m → WordOrEnd x
+signature_front : (ps : List SignaturePart) (x y : List Token) (m : Module) → ReadsAll ReadsSignaturePart ps x y
+    → SectionsLeft y m → WordOrEnd x
 signature_front [] x y m r l = subst WordOrEnd r (sections_front l.sections y l.reads)
 signature_front (sorts ss ∷ ps) x y m r l = inl (KSorts, r.1.0, r.1.1, refl)
 signature_front (constructors ds ∷ ps) x y m r l = inl (KConstructors, r.1.0, r.1.1, refl)
@@ -56,7 +59,8 @@ end_ends : (x : List Token) → WordOrEnd x → DefinitionEnds x
 end_ends x (inl h) = subst DefinitionEnds (sym h.2) (record { stops = refl; no_condition = h.3 })
 end_ends x (inr h) = subst DefinitionEnds (sym h) (record { stops = tt; no_condition = refl })
 
-definitions_end_at : (ds : List Defined) (x y : List Token) (m : Module) → ReadsAll ReadsDefined ds x y → SectionsLeft y m → DefinitionEnds x
+definitions_end_at : (ds : List Defined) (x y : List Token) (m : Module) → ReadsAll ReadsDefined ds x y
+    → SectionsLeft y m → DefinitionEnds x
 definitions_end_at [] x y m r l = subst DefinitionEnds r (end_ends y (sections_front l.sections y l.reads))
 definitions_end_at (d ∷ ds) x y m r l = named_ends x (defined_named d x r.0 r.1)
 
@@ -71,12 +75,16 @@ apart_end : (x : List Token) → WordOrEnd x → DeclarationEnds x
 apart_end x (inl h) = subst DeclarationEnds (sym h.2) (record { round = refl; star = refl; arrow = refl })
 apart_end x (inr h) = subst DeclarationEnds (sym h) (record { round = refl; star = refl; arrow = refl })
 
-declarations_apart : (ds : List Declaration) (x y : List Token) (m : Module) → ReadsAll ReadsDeclaration ds x y → SignatureLeft y m → DeclarationEnds x
-declarations_apart [] x y m r l = subst DeclarationEnds r (apart_end y (signature_front l.parts y l.rest l.after l.reads l.left))
+declarations_apart : (ds : List Declaration) (x y : List Token) (m : Module) → ReadsAll ReadsDeclaration ds x y
+    → SignatureLeft y m → DeclarationEnds x
+declarations_apart [] x y m r l =
+    subst DeclarationEnds r (apart_end y (signature_front l.parts y l.rest l.after l.reads l.left))
 declarations_apart (d ∷ ds) x y m r l = apart_colon x (declaration_front d x r.0 r.1)
 
-sorts_apart : (ss : List Sort) (x y : List Token) (m : Module) → ReadsAll ReadsSort ss x y → SignatureLeft y m → DeclarationEnds x
-sorts_apart [] x y m r l = subst DeclarationEnds r (apart_end y (signature_front l.parts y l.rest l.after l.reads l.left))
+sorts_apart : (ss : List Sort) (x y : List Token) (m : Module) → ReadsAll ReadsSort ss x y → SignatureLeft y m
+    → DeclarationEnds x
+sorts_apart [] x y m r l =
+    subst DeclarationEnds r (apart_end y (signature_front l.parts y l.rest l.after l.reads l.left))
 sorts_apart (s ∷ ss) x y m r l = apart_named x (sort_named s x r.0 r.1)
 
 -- an item comes: the item and the rest after it
@@ -89,7 +97,8 @@ pub record DefinitionStep (x : List Token) (m : Module) : Type 0 where
   pub left : DefinitionsLeft rest after
   pub gives : joined [] (core_definition definition ∷ []) after ≡ m
 
-definitions_items : (ds : List Defined) (x y : List Token) (m : Module) → ReadsAll ReadsDefined ds x y → (k : Module) → SectionsLeft y k → joined [] (map core_definition ds) k ≡ m → IsItem x → DefinitionStep x m
+definitions_items : (ds : List Defined) (x y : List Token) (m : Module) → ReadsAll ReadsDefined ds x y → (k : Module)
+    → SectionsLeft y k → joined [] (map core_definition ds) k ≡ m → IsItem x → DefinitionStep x m
 definitions_items [] x y m r k l e i = absurd (outside_item y k l (subst IsItem (sym r) i))
 definitions_items (d ∷ ds) x y m r k l e i = record {
   definition = d;
@@ -104,7 +113,8 @@ definitions_items (d ∷ ds) x y m r k l e i = record {
 pub definition_step : (x : List Token) (m : Module) → DefinitionsLeft x m → IsItem x → DefinitionStep x m
 definition_step x m l i = definitions_items l.definitions x l.rest m l.reads l.after l.left l.gives i
 
-pub definition_back : (d : Defined) (x y : List Token) (m : Module) → ReadsDefined d x y → DefinitionsLeft y m → DefinitionsLeft x (joined [] (core_definition d ∷ []) m)
+pub definition_back : (d : Defined) (x y : List Token) (m : Module) → ReadsDefined d x y → DefinitionsLeft y m
+    → DefinitionsLeft x (joined [] (core_definition d ∷ []) m)
 definition_back d x y m r l = record {
   definitions = d ∷ l.definitions;
   rest = l.rest;
@@ -123,7 +133,8 @@ pub record DeclarationStep (x : List Token) (m : Module) : Type 0 where
   pub left : DeclarationsLeft rest after
   pub gives : joined (declared declaration) [] after ≡ m
 
-declarations_items : (ds : List Declaration) (x y : List Token) (m : Module) → ReadsAll ReadsDeclaration ds x y → (k : Module) → SignatureLeft y k → joined (flat_map declared ds) [] k ≡ m → IsItem x → DeclarationStep x m
+declarations_items : (ds : List Declaration) (x y : List Token) (m : Module) → ReadsAll ReadsDeclaration ds x y
+    → (k : Module) → SignatureLeft y k → joined (flat_map declared ds) [] k ≡ m → IsItem x → DeclarationStep x m
 declarations_items [] x y m r k l e i = absurd (signature_item y k l (subst IsItem (sym r) i))
 declarations_items (d ∷ ds) x y m r k l e i = record {
   declaration = d;
@@ -138,14 +149,16 @@ declarations_items (d ∷ ds) x y m r k l e i = record {
 pub declaration_step : (x : List Token) (m : Module) → DeclarationsLeft x m → IsItem x → DeclarationStep x m
 declaration_step x m l i = declarations_items l.declarations x l.rest m l.reads l.after l.left l.gives i
 
-pub declaration_back : (d : Declaration) (x y : List Token) (m : Module) → ReadsDeclaration d x y → DeclarationsLeft y m → DeclarationsLeft x (joined (declared d) [] m)
+pub declaration_back : (d : Declaration) (x y : List Token) (m : Module) → ReadsDeclaration d x y → DeclarationsLeft y m
+    → DeclarationsLeft x (joined (declared d) [] m)
 declaration_back d x y m r l = record {
   declarations = d ∷ l.declarations;
   rest = l.rest;
   reads = (y, r, l.reads);
   after = l.after;
   left = l.left;
-  gives = sym (joined-joined (declared d) (flat_map declared l.declarations) [] [] l.after) ∙ ap (joined (declared d) []) l.gives;
+  gives = sym (joined-joined (declared d) (flat_map declared l.declarations) [] [] l.after)
+      ∙ ap (joined (declared d) []) l.gives;
 }
 
 pub record SortStep (x : List Token) (m : Module) : Type 0 where
@@ -155,7 +168,8 @@ pub record SortStep (x : List Token) (m : Module) : Type 0 where
   pub ends : DeclarationEnds rest
   pub left : SortsLeft rest m
 
-sorts_items : (ss : List Sort) (x y : List Token) (m : Module) → ReadsAll ReadsSort ss x y → SignatureLeft y m → IsItem x → SortStep x m
+sorts_items : (ss : List Sort) (x y : List Token) (m : Module) → ReadsAll ReadsSort ss x y → SignatureLeft y m
+    → IsItem x → SortStep x m
 sorts_items [] x y m r l i = absurd (signature_item y m l (subst IsItem (sym r) i))
 sorts_items (s ∷ ss) x y m r l i = record {
   sort = s;

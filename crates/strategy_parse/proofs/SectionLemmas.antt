@@ -22,15 +22,22 @@ use Rattle.strategy_parse.proofs.SectionItems.{outside_item, signature_item, Def
 -- ---- a word is read, or the text ends
 
 module _ (p : Context) (cs : List Constructor) (ds : List Definition) (m : Module) where
-  pub word_forth : (w : Keyword) (q : Context) (x : List Token) → next_context p w ≡ Some q → SectionStands p cs ds (Reserved w ∷ x) m → SectionStands q cs ds x m
+  pub word_forth : (w : Keyword) (q : Context) (x : List Token) → next_context p w ≡ Some q
+      → SectionStands p cs ds (Reserved w ∷ x) m → SectionStands q cs ds x m
   word_forth w q x e s =
       let t : WordStep p w x s.after = word_step p w x s.after s.left in
-      record { after = s.after; left = subst (λ r. Left r x s.after) (some-is t.context q (sym t.is ∙ e)) t.left; gives = s.gives }
+      record {
+        after = s.after;
+        left = subst (λ r. Left r x s.after) (some-is t.context q (sym t.is ∙ e)) t.left;
+        gives = s.gives;
+      }
 
-  pub word_after : (w : Keyword) (q : Context) (x : List Token) → next_context p w ≡ Some q → SectionStands q cs ds x m → SectionStands p cs ds (Reserved w ∷ x) m
+  pub word_after : (w : Keyword) (q : Context) (x : List Token) → next_context p w ≡ Some q → SectionStands q cs ds x m
+      → SectionStands p cs ds (Reserved w ∷ x) m
   word_after w q x e s = record { after = s.after; left = word_back p w q x s.after e s.left; gives = s.gives }
 
-  pub word_none : (w : Keyword) (x : List Token) → next_context p w ≡ None → SectionStands p cs ds (Reserved w ∷ x) m → ⊥
+  pub word_none : (w : Keyword) (x : List Token)
+      → next_context p w ≡ None → SectionStands p cs ds (Reserved w ∷ x) m → ⊥
   word_none w x e s =
       let t : WordStep p w x s.after = word_step p w x s.after s.left in
       let no : ◌≡◌ {A = Option Context} None (Some t.context) = sym e ∙ t.is in
@@ -56,23 +63,28 @@ module _ (cs : List Constructor) (ds : List Definition) (x : List Token) (m : Mo
   pub sort_forth : (y : List Token) → sort_at x ≡ Some y → SectionStands Sorts cs ds x m → SectionStands Sorts cs ds y m
   sort_forth y h s =
       let t : SortStep x s.after = sort_step x s.after s.left item in
-      let same : ◌≡◌ {A = Option (List Token)} (Some t.rest) (Some y) = sym (sort_alone t.sort x t.rest t.reads t.ends.round t.ends.star) ∙ h in
+      let same : ◌≡◌ {A = Option (List Token)} (Some t.rest) (Some y) =
+      sym (sort_alone t.sort x t.rest t.reads t.ends.round t.ends.star) ∙ h in
       let rest : t.rest ≡ y = cc in
       record { after = s.after; left = subst (λ l. SortsLeft l s.after) rest t.left; gives = s.gives }
 
   pub sort_none : sort_at x ≡ None → SectionStands Sorts cs ds x m → ⊥
   sort_none h s =
       let t : SortStep x s.after = sort_step x s.after s.left item in
-      let no : ◌≡◌ {A = Option (List Token)} None (Some t.rest) = sym h ∙ sort_alone t.sort x t.rest t.reads t.ends.round t.ends.star in
+      let no : ◌≡◌ {A = Option (List Token)} None (Some t.rest) = sym h
+      ∙ sort_alone t.sort x t.rest t.reads t.ends.round t.ends.star in
       cc
 
-  declared-same : (d : Declaration) (es : List Constructor) (y z : List Token) → ◌≡◌ {A = DeclaredLeft} (Some (declared d, z)) (Some (es, y)) → ◌≡◌ {A = List Constructor × List Token} (declared d, z) (es, y)
+  declared-same : (d : Declaration) (es : List Constructor) (y z : List Token) → ◌≡◌ {A = DeclaredLeft}
+      (Some (declared d, z)) (Some (es, y)) → ◌≡◌ {A = List Constructor × List Token} (declared d, z) (es, y)
   declared-same d es y z e = cc
 
-  pub declaration_forth : (es : List Constructor) (y : List Token) → declaration_at x ≡ Some (es, y) → SectionStands Constructors cs ds x m → SectionStands Constructors (cs ++ es) ds y m
+  pub declaration_forth : (es : List Constructor) (y : List Token) → declaration_at x ≡ Some (es, y)
+      → SectionStands Constructors cs ds x m → SectionStands Constructors (cs ++ es) ds y m
   declaration_forth es y h s =
       let t : DeclarationStep x s.after = declaration_step x s.after s.left item in
-      let pair : ◌≡◌ {A = List Constructor × List Token} (declared t.declaration, t.rest) (es, y) = declared-same t.declaration es y t.rest (sym (declaration_named t.declaration x t.rest t.reads t.ends) ∙ h) in
+      let pair : ◌≡◌ {A = List Constructor × List Token} (declared t.declaration, t.rest) (es, y) =
+      declared-same t.declaration es y t.rest (sym (declaration_named t.declaration x t.rest t.reads t.ends) ∙ h) in
       record {
         after = t.after;
         left = subst (λ l. DeclarationsLeft l t.after) (ap (λ (q : List Constructor × List Token). q.1) pair) t.left;
@@ -86,10 +98,12 @@ module _ (cs : List Constructor) (ds : List Definition) (x : List Token) (m : Mo
   pub declaration_none : declaration_at x ≡ None → SectionStands Constructors cs ds x m → ⊥
   declaration_none h s =
       let t : DeclarationStep x s.after = declaration_step x s.after s.left item in
-      let no : ◌≡◌ {A = DeclaredLeft} None (Some (declared t.declaration, t.rest)) = sym h ∙ declaration_named t.declaration x t.rest t.reads t.ends in
+      let no : ◌≡◌ {A = DeclaredLeft} None (Some (declared t.declaration, t.rest)) = sym h
+      ∙ declaration_named t.declaration x t.rest t.reads t.ends in
       cc
 
-  pub definition_forth : (d : Definition) (y : List Token) → ((w : Defined) (z : List Token) → ReadsDefined w x z → DefinitionEnds z → (core_definition w ≡ d) × (z ≡ y))
+  pub definition_forth : (d : Definition) (y : List Token)
+      → ((w : Defined) (z : List Token) → ReadsDefined w x z → DefinitionEnds z → (core_definition w ≡ d) × (z ≡ y))
       → SectionStands Definitions cs ds x m → SectionStands Definitions cs (ds ++ d ∷ []) y m
   definition_forth d y only s =
       let t : DefinitionStep x s.after = definition_step x s.after s.left item in
@@ -104,7 +118,8 @@ module _ (cs : List Constructor) (ds : List Definition) (x : List Token) (m : Mo
             ∙ ap (joined cs ds) t.gives ∙ s.gives;
       }
 
-  pub definition_none : ((w : Defined) (z : List Token) → ReadsDefined w x z → DefinitionEnds z → ⊥) → SectionStands Definitions cs ds x m → ⊥
+  pub definition_none : ((w : Defined) (z : List Token) → ReadsDefined w x z → DefinitionEnds z → ⊥)
+      → SectionStands Definitions cs ds x m → ⊥
   definition_none none s =
       let t : DefinitionStep x s.after = definition_step x s.after s.left item in
       none t.definition t.rest t.reads t.ends
@@ -121,7 +136,8 @@ module _ (cs : List Constructor) (ds : List Definition) (x y : List Token) (m : 
       let found = sort_found x y h in
       record { after = s.after; left = sort_back found.0 x y s.after found.1 s.left; gives = s.gives }
 
-  pub declaration_after : (es : List Constructor) → declaration_at x ≡ Some (es, y) → SectionStands Constructors (cs ++ es) ds y m → SectionStands Constructors cs ds x m
+  pub declaration_after : (es : List Constructor) → declaration_at x ≡ Some (es, y)
+      → SectionStands Constructors (cs ++ es) ds y m → SectionStands Constructors cs ds x m
   declaration_after es h s =
       let found : DeclarationFound x es y = declaration_found x es y h in
       record {
@@ -133,7 +149,8 @@ module _ (cs : List Constructor) (ds : List Definition) (x y : List Token) (m : 
             ∙ ap (λ l. joined (cs ++ l) ds s.after) found.is ∙ s.gives;
       }
 
-  pub definition_after : (d : Definition) → DefinitionGives x d y → SectionStands Definitions cs (ds ++ d ∷ []) y m → SectionStands Definitions cs ds x m
+  pub definition_after : (d : Definition) → DefinitionGives x d y → SectionStands Definitions cs (ds ++ d ∷ []) y m
+      → SectionStands Definitions cs ds x m
   definition_after d g s = record {
     after = joined [] (core_definition g.written ∷ []) s.after;
     left = definition_back g.written x y s.after g.reads s.left;
@@ -145,33 +162,44 @@ module _ (cs : List Constructor) (ds : List Definition) (x y : List Token) (m : 
 
 -- ---- as the code has it
 
-module _ (cs ks : List Constructor) (ds : List Definition) (x : List Token) (m : Module) (found : Option Constructor) (y : List Token) (all : ks ≡ cs ++ listed found) (h : declaration_at x ≡ Some (listed found, y)) where
+module _ (cs ks : List Constructor) (ds : List Definition) (x : List Token) (m : Module) (found : Option Constructor)
+    (y : List Token) (all : ks ≡ cs ++ listed found) (h : declaration_at x ≡ Some (listed found, y)) where
   pub declaration_taken : IsItem x → SectionStands Constructors cs ds x m → SectionStands Constructors ks ds y m
-  declaration_taken i s = subst (λ l. SectionStands Constructors l ds y m) (sym all) (declaration_forth cs ds x m i (listed found) y h s)
+  declaration_taken i s =
+      subst (λ l. SectionStands Constructors l ds y m) (sym all) (declaration_forth cs ds x m i (listed found) y h s)
 
   pub declaration_given : SectionStands Constructors ks ds y m → SectionStands Constructors cs ds x m
-  declaration_given s = declaration_after cs ds x y m (listed found) h (subst (λ l. SectionStands Constructors l ds y m) all s)
+  declaration_given s =
+      declaration_after cs ds x y m (listed found) h (subst (λ l. SectionStands Constructors l ds y m) all s)
 
 pub none_listed : (cs : List Constructor) (found : Option Constructor) → found ≡ None → cs ≡ cs ++ listed found
 none_listed cs found e = sym (ap (λ o. cs ++ listed o) e ∙ append-nil cs)
 
-pub one_listed : (cs ks : List Constructor) (found : Option Constructor) (c : Constructor) → found ≡ Some c → ks ≡ cs ++ c ∷ [] → ks ≡ cs ++ listed found
+pub one_listed : (cs ks : List Constructor) (found : Option Constructor) (c : Constructor) → found ≡ Some c
+    → ks ≡ cs ++ c ∷ [] → ks ≡ cs ++ listed found
 one_listed cs ks found c e h = h ∙ ap (λ o. cs ++ listed o) (sym e)
 
-pub word_comes : (p : Context) (cs : List Constructor) (ds : List Definition) (m : Module) (x rest : List Token) (t : Token) (w : Keyword) → x ≡ t ∷ rest → t ≡ Reserved w → SectionStands p cs ds x m → SectionStands p cs ds (Reserved w ∷ rest) m
+pub word_comes : (p : Context) (cs : List Constructor) (ds : List Definition) (m : Module) (x rest : List Token)
+    (t : Token) (w : Keyword) → x ≡ t ∷ rest → t ≡ Reserved w → SectionStands p cs ds x m
+    → SectionStands p cs ds (Reserved w ∷ rest) m
 word_comes p cs ds m x rest t w e h s = subst (λ l. SectionStands p cs ds l m) (e ∙ ap (λ u. u ∷ rest) h) s
 
-pub word_goes : (p : Context) (cs : List Constructor) (ds : List Definition) (m : Module) (x rest : List Token) (t : Token) (w : Keyword) → x ≡ t ∷ rest → t ≡ Reserved w → SectionStands p cs ds (Reserved w ∷ rest) m → SectionStands p cs ds x m
+pub word_goes : (p : Context) (cs : List Constructor) (ds : List Definition) (m : Module) (x rest : List Token)
+    (t : Token) (w : Keyword) → x ≡ t ∷ rest → t ≡ Reserved w → SectionStands p cs ds (Reserved w ∷ rest) m
+    → SectionStands p cs ds x m
 word_goes p cs ds m x rest t w e h s = subst (λ l. SectionStands p cs ds l m) (sym (e ∙ ap (λ u. u ∷ rest) h)) s
 
-pub all_read : (p : Context) (cs : List Constructor) (ds : List Definition) (m : Module) (x : List Token) → x ≡ [] → m ≡ record { constructors = cs; definitions = ds } → SectionStands p cs ds x m
+pub all_read : (p : Context) (cs : List Constructor) (ds : List Definition) (m : Module) (x : List Token)
+    → x ≡ [] → m ≡ record { constructors = cs; definitions = ds } → SectionStands p cs ds x m
 all_read p cs ds m x e h = subst (λ l. SectionStands p cs ds l m) (sym e) (end_after p cs ds m h)
 
-pub read_all : (p : Context) (cs : List Constructor) (ds : List Definition) (m r : Module) (x : List Token) → x ≡ [] → m ≡ record { constructors = cs; definitions = ds } → SectionStands p cs ds x r → r ≡ m
+pub read_all : (p : Context) (cs : List Constructor) (ds : List Definition) (m r : Module) (x : List Token)
+    → x ≡ [] → m ≡ record { constructors = cs; definitions = ds } → SectionStands p cs ds x r → r ≡ m
 read_all p cs ds m r x e h s = end_forth p cs ds r (subst (λ l. SectionStands p cs ds l r) e s) ∙ sym h
 
 -- no item comes where a part has to begin
-pub no_item : (p : Context) → (p ≡ Sorts → ⊥) → (p ≡ Constructors → ⊥) → (p ≡ Definitions → ⊥) → (cs : List Constructor) (ds : List Definition) (x : List Token) (m : Module) → IsItem x → SectionStands p cs ds x m → ⊥
+pub no_item : (p : Context) → (p ≡ Sorts → ⊥) → (p ≡ Constructors → ⊥) → (p ≡ Definitions → ⊥) → (cs : List Constructor)
+    (ds : List Definition) (x : List Token) (m : Module) → IsItem x → SectionStands p cs ds x m → ⊥
 no_item Outside a b e cs ds x m i s = no_outside cs ds x m i s
 no_item InSignature a b e cs ds x m i s = no_signature cs ds x m i s
 no_item Sorts a b e cs ds x m i s = a refl

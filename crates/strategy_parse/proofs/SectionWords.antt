@@ -21,7 +21,8 @@ use Rattle.strategy_parse.specs.inside.Sections.{in_signature, next_context, IsI
 unfoldable pub nothing : Module
 nothing = record { constructors = []; definitions = [] }
 
-pub joined-joined : (ys bs : List Constructor) (cs ds : List Definition) (m : Module) → joined ys cs (joined bs ds m) ≡ joined (ys ++ bs) (cs ++ ds) m
+pub joined-joined : (ys bs : List Constructor) (cs ds : List Definition) (m : Module)
+    → joined ys cs (joined bs ds m) ≡ joined (ys ++ bs) (cs ++ ds) m
 joined-joined ys bs cs ds m = λ i. record {
   constructors = sym (append_assoc ys bs m.constructors) i;
   definitions = sym (append_assoc cs ds m.definitions) i;
@@ -89,42 +90,74 @@ word-is w k x a e = cc
 rest-is : (w k : Keyword) (x a : List Token) → Reserved w ∷ x ≡ Reserved k ∷ a → x ≡ a
 rest-is w k x a e = cc
 
-to_part : (k : Keyword) (q : Context) (w : Keyword) (x a : List Token) (m : Module) → ((p : Context) → next_context p k ≡ Some q) → Reserved w ∷ x ≡ Reserved k ∷ a → Left q a m → AnyStep w x m
+to_part : (k : Keyword) (q : Context) (w : Keyword) (x a : List Token) (m : Module)
+    → ((p : Context) → next_context p k ≡ Some q) → Reserved w ∷ x ≡ Reserved k ∷ a → Left q a m → AnyStep w x m
 to_part k q w x a m is e left = record {
   context = q;
   is = λ p. ap (next_context p) (word-is w k x a e) ∙ is p;
   left = subst (λ l. Left q l m) (sym (rest-is w k x a e)) left;
 }
 
-outside_step : (ss : List Section) (w : Keyword) (x : List Token) (m : Module) → ReadsSections ss (Reserved w ∷ x) → core_module ss ≡ m → AnyStep w x m
+outside_step : (ss : List Section) (w : Keyword) (x : List Token) (m : Module)
+    → ReadsSections ss (Reserved w ∷ x) → core_module ss ≡ m → AnyStep w x m
 outside_step [] w x m r e = absurd (cc)
 outside_step (signature ps ∷ ss) w x m r e =
     to_part KSignature InSignature w x r.1.0 m (λ p. refl) r.1.1
-    (record { parts = ps; rest = r.0; reads = r.1.2; after = core_module ss; left = record { sections = ss; reads = r.2; gives = refl }; gives = e })
+    (record {
+      parts = ps;
+      rest = r.0;
+      reads = r.1.2;
+      after = core_module ss;
+      left = record { sections = ss; reads = r.2; gives = refl };
+      gives = e;
+    })
 outside_step (definitions ds ∷ ss) w x m (v, (a, (inl k), reads), rest) e =
     to_part Rules Definitions w x a m (λ p. refl) k
-    (record { definitions = ds; rest = v; reads = reads; after = core_module ss; left = record { sections = ss; reads = rest; gives = refl }; gives = e })
+    (record {
+      definitions = ds;
+      rest = v;
+      reads = reads;
+      after = core_module ss;
+      left = record { sections = ss; reads = rest; gives = refl };
+      gives = e;
+    })
 outside_step (definitions ds ∷ ss) w x m (v, (a, (inr k), reads), rest) e =
     to_part Strategies Definitions w x a m (λ p. refl) k
-    (record { definitions = ds; rest = v; reads = reads; after = core_module ss; left = record { sections = ss; reads = rest; gives = refl }; gives = e })
+    (record {
+      definitions = ds;
+      rest = v;
+      reads = reads;
+      after = core_module ss;
+      left = record { sections = ss; reads = rest; gives = refl };
+      gives = e;
+    })
 
 from_any : (p : Context) (w : Keyword) (x : List Token) (m : Module) → AnyStep w x m → WordStep p w x m
 from_any p w x m s = record { context = s.context; is = s.is p; left = s.left }
 
-sections_step : (p : Context) (w : Keyword) (x y : List Token) (m : Module) → y ≡ Reserved w ∷ x → SectionsLeft y m → WordStep p w x m
-sections_step p w x y m e l = from_any p w x m (outside_step l.sections w x m (subst (λ z. ReadsSections l.sections z) e l.reads) l.gives)
+sections_step : (p : Context) (w : Keyword) (x y : List Token) (m : Module) → y ≡ Reserved w ∷ x → SectionsLeft y m
+    → WordStep p w x m
+sections_step p w x y m e l =
+    from_any p w x m (outside_step l.sections w x m (subst (λ z. ReadsSections l.sections z) e l.reads) l.gives)
 
 -- in a signature
 abbrev IsInSignature : Context → Type 0
 IsInSignature p = (q : Context) → in_signature p q ≡ Some q
 
-signature_step : (p : Context) → IsInSignature p → (ps : List SignaturePart) (w : Keyword) (x y : List Token) (m : Module) → ReadsAll ReadsSignaturePart ps (Reserved w ∷ x) y → (k : Module) → SectionsLeft y k → joined (flat_map declared_in_part ps) [] k ≡ m → WordStep p w x m
+signature_step : (p : Context) → IsInSignature p → (ps : List SignaturePart) (w : Keyword) (x y : List Token)
+    (m : Module) → ReadsAll ReadsSignaturePart ps (Reserved w ∷ x) y → (k : Module) → SectionsLeft y k
+    → joined (flat_map declared_in_part ps) [] k ≡ m → WordStep p w x m
 signature_step p h [] w x y m r k l e = sections_step p w x y m r (subst (SectionsLeft y) e l)
 signature_step p h (sorts ss ∷ ps) w x y m r k l e = record {
   context = Sorts;
   is = ap (next_context p) (word-is w KSorts x r.1.0 r.1.1) ∙ h Sorts;
   left = subst (λ z. SortsLeft z m) (sym (rest-is w KSorts x r.1.0 r.1.1))
-      (record { sorts = ss; rest = r.0; reads = r.1.2; left = record { parts = ps; rest = y; reads = r.2; after = k; left = l; gives = e } });
+      (record {
+        sorts = ss;
+        rest = r.0;
+        reads = r.1.2;
+        left = record { parts = ps; rest = y; reads = r.2; after = k; left = l; gives = e };
+      });
 }
 signature_step p h (constructors ds ∷ ps) w x y m r k l e = record {
   context = Constructors;
@@ -140,20 +173,30 @@ signature_step p h (constructors ds ∷ ps) w x y m r k l e = record {
       });
 }
 
-in_signature_step : (p : Context) → IsInSignature p → (w : Keyword) (x y : List Token) (m : Module) → y ≡ Reserved w ∷ x → SignatureLeft y m → WordStep p w x m
-in_signature_step p h w x y m e l = signature_step p h l.parts w x l.rest m (subst (λ z. ReadsAll ReadsSignaturePart l.parts z l.rest) e l.reads) l.after l.left l.gives
+in_signature_step : (p : Context) → IsInSignature p → (w : Keyword) (x y : List Token) (m : Module)
+    → y ≡ Reserved w ∷ x → SignatureLeft y m → WordStep p w x m
+in_signature_step p h w x y m e l = signature_step p h l.parts w x l.rest m
+    (subst (λ z. ReadsAll ReadsSignaturePart l.parts z l.rest) e l.reads) l.after l.left l.gives
 
-sorts_step : (ss : List Sort) (w : Keyword) (x y : List Token) (m : Module) → ReadsAll ReadsSort ss (Reserved w ∷ x) y → SignatureLeft y m → WordStep Sorts w x m
+sorts_step : (ss : List Sort) (w : Keyword) (x y : List Token) (m : Module) → ReadsAll ReadsSort ss (Reserved w ∷ x) y
+    → SignatureLeft y m → WordStep Sorts w x m
 sorts_step [] w x y m r l = in_signature_step Sorts (λ q. refl) w x y m r l
 sorts_step (s ∷ ss) w x y m r l = absurd (no_name (Reserved w ∷ x) x w refl (sort_named s (Reserved w ∷ x) r.0 r.1))
 
-declarations_step : (ds : List Declaration) (w : Keyword) (x y : List Token) (m : Module) → ReadsAll ReadsDeclaration ds (Reserved w ∷ x) y → (k : Module) → SignatureLeft y k → joined (flat_map declared ds) [] k ≡ m → WordStep Constructors w x m
-declarations_step [] w x y m r k l e = in_signature_step Constructors (λ q. refl) w x y m r (subst (SignatureLeft y) e l)
-declarations_step (d ∷ ds) w x y m r k l e = absurd (no_name_or_colon (Reserved w ∷ x) x w refl (declaration_front d (Reserved w ∷ x) r.0 r.1))
+declarations_step : (ds : List Declaration) (w : Keyword) (x y : List Token) (m : Module)
+    → ReadsAll ReadsDeclaration ds (Reserved w ∷ x) y → (k : Module) → SignatureLeft y k
+    → joined (flat_map declared ds) [] k ≡ m → WordStep Constructors w x m
+declarations_step [] w x y m r k l e =
+    in_signature_step Constructors (λ q. refl) w x y m r (subst (SignatureLeft y) e l)
+declarations_step (d ∷ ds) w x y m r k l e =
+    absurd (no_name_or_colon (Reserved w ∷ x) x w refl (declaration_front d (Reserved w ∷ x) r.0 r.1))
 
-definitions_step : (ds : List Defined) (w : Keyword) (x y : List Token) (m : Module) → ReadsAll ReadsDefined ds (Reserved w ∷ x) y → (k : Module) → SectionsLeft y k → joined [] (map core_definition ds) k ≡ m → WordStep Definitions w x m
+definitions_step : (ds : List Defined) (w : Keyword) (x y : List Token) (m : Module)
+    → ReadsAll ReadsDefined ds (Reserved w ∷ x) y → (k : Module) → SectionsLeft y k
+    → joined [] (map core_definition ds) k ≡ m → WordStep Definitions w x m
 definitions_step [] w x y m r k l e = sections_step Definitions w x y m r (subst (SectionsLeft y) e l)
-definitions_step (d ∷ ds) w x y m r k l e = absurd (no_name (Reserved w ∷ x) x w refl (defined_named d (Reserved w ∷ x) r.0 r.1))
+definitions_step (d ∷ ds) w x y m r k l e =
+    absurd (no_name (Reserved w ∷ x) x w refl (defined_named d (Reserved w ∷ x) r.0 r.1))
 
 pub word_step : (p : Context) (w : Keyword) (x : List Token) (m : Module) → Left p (Reserved w ∷ x) m → WordStep p w x m
 word_step Outside w x m l = sections_step Outside w x (Reserved w ∷ x) m refl l
@@ -191,7 +234,8 @@ from_outside : (p : Context) (x : List Token) (m : Module) → SectionsLeft x m 
 from_outside Outside x m l = l
 from_outside InSignature x m l = signature_of x m l
 from_outside Sorts x m l = record { sorts = []; rest = x; reads = refl; left = signature_of x m l }
-from_outside Constructors x m l = record { declarations = []; rest = x; reads = refl; after = m; left = signature_of x m l; gives = refl }
+from_outside Constructors x m l =
+    record { declarations = []; rest = x; reads = refl; after = m; left = signature_of x m l; gives = refl }
 from_outside Definitions x m l = record { definitions = []; rest = x; reads = refl; after = m; left = l; gives = refl }
 
 signature_sorts : (x : List Token) (m : Module) → SortsLeft x m → SignatureLeft (Reserved KSorts ∷ x) m
@@ -204,7 +248,8 @@ signature_sorts x m l = record {
   gives = l.left.gives;
 }
 
-signature_constructors : (x : List Token) (m : Module) → DeclarationsLeft x m → SignatureLeft (Reserved KConstructors ∷ x) m
+signature_constructors : (x : List Token) (m : Module) → DeclarationsLeft x m
+    → SignatureLeft (Reserved KConstructors ∷ x) m
 signature_constructors x m l = record {
   parts = constructors l.declarations ∷ l.left.parts;
   rest = l.left.rest;
@@ -216,11 +261,13 @@ signature_constructors x m l = record {
       ∙ ap (joined (flat_map declared l.declarations) []) l.left.gives ∙ l.gives;
 }
 
-from_signature : (p q : Context) (x : List Token) (m : Module) → in_signature p q ≡ Some q → SignatureLeft x m → Left p x m
+from_signature : (p q : Context) (x : List Token) (m : Module) → in_signature p q ≡ Some q → SignatureLeft x m
+    → Left p x m
 from_signature Outside q x m e l = absurd (cc)
 from_signature InSignature q x m e l = l
 from_signature Sorts q x m e l = record { sorts = []; rest = x; reads = refl; left = l }
-from_signature Constructors q x m e l = record { declarations = []; rest = x; reads = refl; after = m; left = l; gives = refl }
+from_signature Constructors q x m e l =
+    record { declarations = []; rest = x; reads = refl; after = m; left = l; gives = refl }
 from_signature Definitions q x m e l = absurd (cc)
 
 in_signature-is : (p q r : Context) → in_signature p q ≡ Some r → q ≡ r
@@ -233,16 +280,22 @@ in_signature-is Definitions q r e = absurd (cc)
 pub some-is : (q r : Context) → ◌≡◌ {A = Option Context} (Some q) (Some r) → q ≡ r
 some-is q r e = cc
 
-pub word_back : (p : Context) (w : Keyword) (q : Context) (x : List Token) (m : Module) → next_context p w ≡ Some q → Left q x m → Left p (Reserved w ∷ x) m
-word_back p KSignature q x m e l = from_outside p (Reserved KSignature ∷ x) m (outside_signature x m (subst (λ r. Left r x m) (sym (some-is InSignature q e)) l))
-word_back p Rules q x m e l = from_outside p (Reserved Rules ∷ x) m (outside_rules x m (subst (λ r. Left r x m) (sym (some-is Definitions q e)) l))
-word_back p Strategies q x m e l = from_outside p (Reserved Strategies ∷ x) m (outside_strategies x m (subst (λ r. Left r x m) (sym (some-is Definitions q e)) l))
+pub word_back : (p : Context) (w : Keyword) (q : Context) (x : List Token) (m : Module) → next_context p w ≡ Some q
+    → Left q x m → Left p (Reserved w ∷ x) m
+word_back p KSignature q x m e l = from_outside p (Reserved KSignature ∷ x) m
+    (outside_signature x m (subst (λ r. Left r x m) (sym (some-is InSignature q e)) l))
+word_back p Rules q x m e l = from_outside p (Reserved Rules ∷ x) m
+    (outside_rules x m (subst (λ r. Left r x m) (sym (some-is Definitions q e)) l))
+word_back p Strategies q x m e l = from_outside p (Reserved Strategies ∷ x) m
+    (outside_strategies x m (subst (λ r. Left r x m) (sym (some-is Definitions q e)) l))
 word_back p KSorts q x m e l =
     let same : Sorts ≡ q = in_signature-is p Sorts q e in
-    from_signature p Sorts (Reserved KSorts ∷ x) m (e ∙ ap Some (sym same)) (signature_sorts x m (subst (λ r. Left r x m) (sym same) l))
+    from_signature p Sorts (Reserved KSorts ∷ x) m (e ∙ ap Some (sym same))
+    (signature_sorts x m (subst (λ r. Left r x m) (sym same) l))
 word_back p KConstructors q x m e l =
     let same : Constructors ≡ q = in_signature-is p Constructors q e in
-    from_signature p Constructors (Reserved KConstructors ∷ x) m (e ∙ ap Some (sym same)) (signature_constructors x m (subst (λ r. Left r x m) (sym same) l))
+    from_signature p Constructors (Reserved KConstructors ∷ x) m (e ∙ ap Some (sym same))
+    (signature_constructors x m (subst (λ r. Left r x m) (sym same) l))
 word_back p w q x m e l = absurd (cc)
 
 -- ---- the end of the text
@@ -250,30 +303,38 @@ word_back p w q x m e l = absurd (cc)
 sections_end : (ss : List Section) (m : Module) → ReadsSections ss [] → core_module ss ≡ m → nothing ≡ m
 unfolding nothing
 sections_end [] m r e = e
-sections_end (signature ps ∷ ss) m r e = let no : ◌≡◌ {A = List Token} [] (Reserved KSignature ∷ r.1.0) = r.1.1 in absurd (cc)
+sections_end (signature ps ∷ ss) m r e = let no : ◌≡◌ {A = List Token} [] (Reserved KSignature ∷ r.1.0) = r.1.1 in
+    absurd (cc)
 sections_end (definitions ds ∷ ss) m (v, (a, (inl k), reads), rest) e = absurd (cc)
 sections_end (definitions ds ∷ ss) m (v, (a, (inr k), reads), rest) e = absurd (cc)
 
 sections_done : (x : List Token) (m : Module) → x ≡ [] → SectionsLeft x m → nothing ≡ m
 sections_done x m e l = sections_end l.sections m (subst (λ z. ReadsSections l.sections z) e l.reads) l.gives
 
-signature_end : (ps : List SignaturePart) (y : List Token) (m : Module) → ReadsAll ReadsSignaturePart ps [] y → (k : Module) → SectionsLeft y k → joined (flat_map declared_in_part ps) [] k ≡ m → nothing ≡ m
+signature_end : (ps : List SignaturePart) (y : List Token) (m : Module) → ReadsAll ReadsSignaturePart ps [] y
+    → (k : Module) → SectionsLeft y k → joined (flat_map declared_in_part ps) [] k ≡ m → nothing ≡ m
 signature_end [] y m r k l e = sections_done y m r (subst (SectionsLeft y) e l)
-signature_end (sorts ss ∷ ps) y m r k l e = let no : ◌≡◌ {A = List Token} [] (Reserved KSorts ∷ r.1.0) = r.1.1 in absurd (cc)
-signature_end (constructors ds ∷ ps) y m r k l e = let no : ◌≡◌ {A = List Token} [] (Reserved KConstructors ∷ r.1.0) = r.1.1 in absurd (cc)
+signature_end (sorts ss ∷ ps) y m r k l e = let no : ◌≡◌ {A = List Token} [] (Reserved KSorts ∷ r.1.0) = r.1.1 in
+    absurd (cc)
+signature_end (constructors ds ∷ ps) y m r k l e = let no : ◌≡◌ {A = List Token} [] (Reserved KConstructors ∷ r.1.0) =
+    r.1.1 in absurd (cc)
 
 signature_done : (x : List Token) (m : Module) → x ≡ [] → SignatureLeft x m → nothing ≡ m
-signature_done x m e l = signature_end l.parts l.rest m (subst (λ z. ReadsAll ReadsSignaturePart l.parts z l.rest) e l.reads) l.after l.left l.gives
+signature_done x m e l = signature_end l.parts l.rest m
+    (subst (λ z. ReadsAll ReadsSignaturePart l.parts z l.rest) e l.reads) l.after l.left l.gives
 
-sorts_end : (ss : List Sort) (y : List Token) (m : Module) → ReadsAll ReadsSort ss [] y → SignatureLeft y m → nothing ≡ m
+sorts_end : (ss : List Sort) (y : List Token) (m : Module) → ReadsAll ReadsSort ss [] y → SignatureLeft y m
+    → nothing ≡ m
 sorts_end [] y m r l = signature_done y m r l
 sorts_end (s ∷ ss) y m r l = absurd (no_end [] refl (sort_named s [] r.0 r.1))
 
-declarations_end : (ds : List Declaration) (y : List Token) (m : Module) → ReadsAll ReadsDeclaration ds [] y → (k : Module) → SignatureLeft y k → joined (flat_map declared ds) [] k ≡ m → nothing ≡ m
+declarations_end : (ds : List Declaration) (y : List Token) (m : Module) → ReadsAll ReadsDeclaration ds [] y
+    → (k : Module) → SignatureLeft y k → joined (flat_map declared ds) [] k ≡ m → nothing ≡ m
 declarations_end [] y m r k l e = signature_done y m r (subst (SignatureLeft y) e l)
 declarations_end (d ∷ ds) y m r k l e = absurd (no_end_or_colon [] refl (declaration_front d [] r.0 r.1))
 
-definitions_end : (ds : List Defined) (y : List Token) (m : Module) → ReadsAll ReadsDefined ds [] y → (k : Module) → SectionsLeft y k → joined [] (map core_definition ds) k ≡ m → nothing ≡ m
+definitions_end : (ds : List Defined) (y : List Token) (m : Module) → ReadsAll ReadsDefined ds [] y → (k : Module)
+    → SectionsLeft y k → joined [] (map core_definition ds) k ≡ m → nothing ≡ m
 definitions_end [] y m r k l e = sections_done y m r (subst (SectionsLeft y) e l)
 definitions_end (d ∷ ds) y m r k l e = absurd (no_end [] refl (defined_named d [] r.0 r.1))
 
@@ -286,4 +347,5 @@ left_end Definitions m l = definitions_end l.definitions l.rest m l.reads l.afte
 
 pub left_nothing : (p : Context) → Left p [] nothing
 unfolding nothing
-left_nothing p = from_outside p [] (record { constructors = []; definitions = [] }) (record { sections = []; reads = refl; gives = refl })
+left_nothing p = from_outside p [] (record { constructors = []; definitions = [] })
+    (record { sections = []; reads = refl; gives = refl })

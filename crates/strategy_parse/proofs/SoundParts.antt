@@ -57,7 +57,8 @@ pub record FoundChoice (S : List ParserFrame) (x : List Token) (r : Strategy) : 
   pub shorter : length rest < length x
 
 -- the further strategies of a list, up to the sign that closes it
-pub record MoreClosed (g : StrategyGroup) (done : List Strategy) (S : List ParserFrame) (x : List Token) (r : Strategy) : Type 0 where
+pub record MoreClosed (g : StrategyGroup) (done : List Strategy) (S : List ParserFrame) (x : List Token)
+    (r : Strategy) : Type 0 where
   pub choices : Choices
   pub rest : List Token
   pub reads : ReadsMoreChoices choices (closing g) x rest
@@ -65,7 +66,8 @@ pub record MoreClosed (g : StrategyGroup) (done : List Strategy) (S : List Parse
   pub shorter : length rest < length x
 
 -- ... or up to a `|`
-pub record MoreBar (g : StrategyGroup) (done : List Strategy) (S : List ParserFrame) (x : List Token) (r : Strategy) : Type 0 where
+pub record MoreBar (g : StrategyGroup) (done : List Strategy) (S : List ParserFrame) (x : List Token)
+    (r : Strategy) : Type 0 where
   pub choices : Choices
   pub rest : List Token
   pub reads : ReadsMoreChoices choices Bar x rest
@@ -125,34 +127,41 @@ pub record FoundMoreNames (done : List Symbol) (S : List ParserFrame) (x : List 
   pub shorter : length rest < length x
 
 abbrev pub PrefixesTo : ℕ → Type 0
-PrefixesTo n = (S : List ParserFrame) (x : List Token) (r : Strategy) → length x ≤ n → Accepts (begin S) x r → FoundPrefix S x r
+PrefixesTo n = (S : List ParserFrame) (x : List Token) (r : Strategy) → length x ≤ n → Accepts (begin S) x r
+    → FoundPrefix S x r
 
 -- ---- parts without strategies
 
-pub pattern_at : (S : List ParserFrame) (x : List Token) (r : Strategy) → Accepts (begin_pattern S) x r → FoundPattern S x r
+pub pattern_at : (S : List ParserFrame) (x : List Token) (r : Strategy) → Accepts (begin_pattern S) x r
+    → FoundPattern S x r
 pattern_at S x r k = pattern_found (length x) S x r (omega arith) k
 
-pub arrows_found : (m : ℕ) (s : Strategy) (S : List ParserFrame) (x : List Token) (r : Strategy) → length x ≤ m → Accepts (after s S) x r → FoundArrows s S x r
-arrows_found zero s S x r le k = elim (at_mark FatArrow (goes ToPattern (ForPattern (Matched s) ∷ S)) (after_arrows s S) x r k) [
-  | inl next ↦ let l : length x ≡ suc (length next.0) = ap length next.1 in absurd (omega arith)
-  | inr other ↦ record { patterns = no_patterns; rest = x; reads = refl; accepts = other; shorter = omega arith }
-]
-arrows_found (suc m) s S x r le k = elim (at_mark FatArrow (goes ToPattern (ForPattern (Matched s) ∷ S)) (after_arrows s S) x r k) [
-  | inl next ↦
-      let l : length x ≡ suc (length next.0) = ap length next.1 in
-      let found : FoundPattern (ForPattern (Matched s) ∷ S) next.0 r = pattern_at (ForPattern (Matched s) ∷ S) next.0 r next.2 in
-      let lt : length found.rest < length next.0 = found.shorter in
-      let more : FoundArrows (syntax.seq s (syntax.matches found.pattern)) S found.rest r = arrows_found m (syntax.seq s (syntax.matches found.pattern)) S found.rest r (omega arith) found.accepts in
-      let lt' : length more.rest ≤ length found.rest = more.shorter in
-      record {
-        patterns = and_pattern found.pattern more.patterns;
-        rest = more.rest;
-        reads = (next.0, next.1, (found.rest, found.reads, more.reads));
-        accepts = more.accepts;
-        shorter = omega arith;
-      }
-  | inr other ↦ record { patterns = no_patterns; rest = x; reads = refl; accepts = other; shorter = omega arith }
-]
+pub arrows_found : (m : ℕ) (s : Strategy) (S : List ParserFrame) (x : List Token) (r : Strategy)
+    → length x ≤ m → Accepts (after s S) x r → FoundArrows s S x r
+arrows_found zero s S x r le k =
+    elim (at_mark FatArrow (goes ToPattern (ForPattern (Matched s) ∷ S)) (after_arrows s S) x r k) [
+      | inl next ↦ let l : length x ≡ suc (length next.0) = ap length next.1 in absurd (omega arith)
+      | inr other ↦ record { patterns = no_patterns; rest = x; reads = refl; accepts = other; shorter = omega arith }
+    ]
+arrows_found (suc m) s S x r le k =
+    elim (at_mark FatArrow (goes ToPattern (ForPattern (Matched s) ∷ S)) (after_arrows s S) x r k) [
+      | inl next ↦
+          let l : length x ≡ suc (length next.0) = ap length next.1 in
+          let found : FoundPattern (ForPattern (Matched s) ∷ S) next.0 r =
+          pattern_at (ForPattern (Matched s) ∷ S) next.0 r next.2 in
+          let lt : length found.rest < length next.0 = found.shorter in
+          let more : FoundArrows (syntax.seq s (syntax.matches found.pattern)) S found.rest r =
+          arrows_found m (syntax.seq s (syntax.matches found.pattern)) S found.rest r (omega arith) found.accepts in
+          let lt' : length more.rest ≤ length found.rest = more.shorter in
+          record {
+            patterns = and_pattern found.pattern more.patterns;
+            rest = more.rest;
+            reads = (next.0, next.1, (found.rest, found.reads, more.reads));
+            accepts = more.accepts;
+            shorter = omega arith;
+          }
+      | inr other ↦ record { patterns = no_patterns; rest = x; reads = refl; accepts = other; shorter = omega arith }
+    ]
 
 -- a name has to come
 pub record FoundName (xs : List Symbol) (S : List ParserFrame) (x : List Token) (r : Strategy) : Type 0 where
@@ -161,7 +170,8 @@ pub record FoundName (xs : List Symbol) (S : List ParserFrame) (x : List Token) 
   pub reads : x ≡ Ident name ∷ rest
   pub accepts : Accepts (step (ScopeNamed (xs ++ name ∷ [])) S) rest r
 
-pub name_found : (xs : List Symbol) (S : List ParserFrame) (x : List Token) (r : Strategy) → Accepts (scope_name xs S) x r → FoundName xs S x r
+pub name_found : (xs : List Symbol) (S : List ParserFrame) (x : List Token) (r : Strategy)
+    → Accepts (scope_name xs S) x r → FoundName xs S x r
 name_found xs S [] r k = absurd (cc)
 name_found xs S (Ident f ∷ ts) r k = record { name = f; rest = ts; reads = refl; accepts = k }
 name_found xs S (Wildcard ∷ ts) r k = absurd (cc)
@@ -171,47 +181,55 @@ name_found xs S (Text f ∷ ts) r k = absurd (cc)
 name_found xs S (ASign s ∷ ts) r k = absurd (cc)
 name_found xs S (Bad ∷ ts) r k = absurd (cc)
 
-pub more_names_found : (m : ℕ) (done : List Symbol) (S : List ParserFrame) (x : List Token) (r : Strategy) → length x ≤ m → Accepts (step (ScopeNamed done) S) x r → FoundMoreNames done S x r
-more_names_found zero done S x r le k = elim (at_mark Colon (goes ToStrategy (ForStrategy (Scope done) ∷ S)) (λ t. if (is_mark Comma t) then goes (ScopeComma done) S else stuck) x r k) [
-  | inl end ↦ let l : length x ≡ suc (length end.0) = ap length end.1 in absurd (omega arith)
-  | inr other ↦
-      let next = only_mark Comma (goes (ScopeComma done) S) x r other in
-      let l : length x ≡ suc (length next.0) = ap length next.1 in
-      absurd (omega arith)
-]
-more_names_found (suc m) done S x r le k = elim (at_mark Colon (goes ToStrategy (ForStrategy (Scope done) ∷ S)) (λ t. if (is_mark Comma t) then goes (ScopeComma done) S else stuck) x r k) [
-  | inl end ↦
-      let l : length x ≡ suc (length end.0) = ap length end.1 in
-      record {
-        names = [];
-        rest = end.0;
-        reads = end.1;
-        accepts = subst (λ l. Accepts (begin (ForStrategy (Scope l) ∷ S)) end.0 r) (sym (append-nil done)) end.2;
-        shorter = omega arith;
-      }
-  | inr other ↦
-      let next = only_mark Comma (goes (ScopeComma done) S) x r other in
-      let l : length x ≡ suc (length next.0) = ap length next.1 in
-      let found : FoundName done S next.0 r = name_found done S next.0 r next.2 in
-      let l' : length next.0 ≡ suc (length found.rest) = ap length found.reads in
-      let more : FoundMoreNames (done ++ found.name ∷ []) S found.rest r = more_names_found m (done ++ found.name ∷ []) S found.rest r (omega arith) found.accepts in
-      let lt : length more.rest < length found.rest = more.shorter in
-      record {
-        names = found.name ∷ more.names;
-        rest = more.rest;
-        reads = (next.0, next.1, (found.rest, found.reads, more.reads));
-        accepts = subst (λ l. Accepts (begin (ForStrategy (Scope l) ∷ S)) more.rest r) (append_assoc done (found.name ∷ []) more.names) more.accepts;
-        shorter = omega arith;
-      }
-]
+pub more_names_found : (m : ℕ) (done : List Symbol) (S : List ParserFrame) (x : List Token) (r : Strategy)
+    → length x ≤ m → Accepts (step (ScopeNamed done) S) x r → FoundMoreNames done S x r
+more_names_found zero done S x r le k = elim (at_mark Colon (goes ToStrategy (ForStrategy (Scope done) ∷ S))
+    (λ t. if (is_mark Comma t) then goes (ScopeComma done) S else stuck) x r k) [
+      | inl end ↦ let l : length x ≡ suc (length end.0) = ap length end.1 in absurd (omega arith)
+      | inr other ↦
+          let next = only_mark Comma (goes (ScopeComma done) S) x r other in
+          let l : length x ≡ suc (length next.0) = ap length next.1 in
+          absurd (omega arith)
+    ]
+more_names_found (suc m) done S x r le k = elim (at_mark Colon (goes ToStrategy (ForStrategy (Scope done) ∷ S))
+    (λ t. if (is_mark Comma t) then goes (ScopeComma done) S else stuck) x r k) [
+      | inl end ↦
+          let l : length x ≡ suc (length end.0) = ap length end.1 in
+          record {
+            names = [];
+            rest = end.0;
+            reads = end.1;
+            accepts = subst (λ l. Accepts (begin (ForStrategy (Scope l) ∷ S)) end.0 r) (sym (append-nil done)) end.2;
+            shorter = omega arith;
+          }
+      | inr other ↦
+          let next = only_mark Comma (goes (ScopeComma done) S) x r other in
+          let l : length x ≡ suc (length next.0) = ap length next.1 in
+          let found : FoundName done S next.0 r = name_found done S next.0 r next.2 in
+          let l' : length next.0 ≡ suc (length found.rest) = ap length found.reads in
+          let more : FoundMoreNames (done ++ found.name ∷ []) S found.rest r =
+          more_names_found m (done ++ found.name ∷ []) S found.rest r (omega arith) found.accepts in
+          let lt : length more.rest < length found.rest = more.shorter in
+          record {
+            names = found.name ∷ more.names;
+            rest = more.rest;
+            reads = (next.0, next.1, (found.rest, found.reads, more.reads));
+            accepts = subst (λ l. Accepts (begin (ForStrategy (Scope l) ∷ S)) more.rest r)
+                (append_assoc done (found.name ∷ []) more.names) more.accepts;
+            shorter = omega arith;
+          }
+    ]
 
-pub names_found : (S : List ParserFrame) (x : List Token) (r : Strategy) → Accepts (step ScopeOpen S) x r → FoundNames S x r
+pub names_found : (S : List ParserFrame) (x : List Token) (r : Strategy) → Accepts (step ScopeOpen S) x r
+    → FoundNames S x r
 names_found S x r k = elim (at_mark Colon (goes ToStrategy (ForStrategy (Scope []) ∷ S)) (scope_name [] S) x r k) [
-  | inl end ↦ let l : length x ≡ suc (length end.0) = ap length end.1 in record { names = []; rest = end.0; reads = end.1; accepts = end.2; shorter = omega arith }
+  | inl end ↦ let l : length x ≡ suc (length end.0) = ap length end.1 in
+      record { names = []; rest = end.0; reads = end.1; accepts = end.2; shorter = omega arith }
   | inr other ↦
       let found : FoundName [] S x r = name_found [] S x r other in
       let l : length x ≡ suc (length found.rest) = ap length found.reads in
-      let more : FoundMoreNames (found.name ∷ []) S found.rest r = more_names_found (length found.rest) (found.name ∷ []) S found.rest r (omega arith) found.accepts in
+      let more : FoundMoreNames (found.name ∷ []) S found.rest r =
+      more_names_found (length found.rest) (found.name ∷ []) S found.rest r (omega arith) found.accepts in
       let lt : length more.rest < length found.rest = more.shorter in
       record {
         names = found.name ∷ more.names;

@@ -71,13 +71,16 @@ pub record Across (p : ModulePlace) (front x : List Token) (b : Bool) (y : List 
   pub next : Onward p (front ++ past) b y
 
 -- no part begins: no token is passed
-plain : (p : ModulePlace) (front x : List Token) (b : Bool) (y : List Token) → ((z : List Token) → GiveModule (front ++ z) → Rest p z) → ((z : List Token) → Rest p z → GiveModule (front ++ z)) → (b ≡ true) × (y ≡ x) → Across p front x b y
+plain : (p : ModulePlace) (front x : List Token) (b : Bool) (y : List Token)
+    → ((z : List Token) → GiveModule (front ++ z) → Rest p z)
+    → ((z : List Token) → Rest p z → GiveModule (front ++ z)) → (b ≡ true) × (y ≡ x) → Across p front x b y
 plain p front x false y to from (non, e) = absurd (cc)
 plain p front x true y to from (star, e) = record {
   past = [];
   splits = sym e;
   begins = subst BeginModule (sym (append-nil front)) (let r = place_rest p in (r.0, from r.0 r.1));
-  next = subst (λ f. Stands p f y) (sym (append-nil front)) (record { forth = λ z a g. to z g; back = λ z a r. from z r });
+  next =
+      subst (λ f. Stands p f y) (sym (append-nil front)) (record { forth = λ z a g. to z g; back = λ z a r. from z r });
 }
 
 module _ (k : BodyPart) (front x : List Token) (y : List Token) (e : Enters (place.Body k) front) where
@@ -86,16 +89,25 @@ module _ (k : BodyPart) (front x : List Token) (y : List Token) (e : Enters (pla
     goes_on : BeginModule (front ++ h.taken)
     goes_on =
         let r = part_rest k in
-        let more : List Token = h.goes_on.more ++ r.0 in
-        (more, subst GiveModule (sym (append_assoc front h.taken more)) (e.back (h.taken ++ more) (h.goes_on.form, r.0, h.goes_on.reads r.0 r.1, r.2)))
+        let more : List Token = h.goes_on.more ++ r.0 in (
+          more,
+          subst GiveModule (sym (append_assoc front h.taken more))
+              (e.back (h.taken ++ more) (h.goes_on.form, r.0, h.goes_on.reads r.0 r.1, r.2)),
+        )
 
-  ends_at : (taken : List Token) (z : List Token) → Alike y z → (s : Halts (first_of k) taken true y) → (form : Strategy) × (read_from (first_of k) (taken ++ z) ≡ Some (form, z))
+  ends_at : (taken : List Token) (z : List Token) → Alike y z → (s : Halts (first_of k) taken true y)
+      → (form : Strategy) × (read_from (first_of k) (taken ++ z) ≡ Some (form, z))
   ends_at taken z a s = at y a s where
-    ends : (t : Token) (z : List Token) → (z ≡ []) ⊎ ((w : List Token) × (z ≡ t ∷ w)) → (d : EndsBefore (first_of k) taken t) → (form : Strategy) × (read_from (first_of k) (taken ++ z) ≡ Some (form, z))
-    ends t z (inl none) d = (d.form, subst (λ l. read_from (first_of k) (taken ++ l) ≡ Some (d.form, l)) (sym none) d.last)
-    ends t z (inr (w, same)) d = (d.form, subst (λ l. read_from (first_of k) (taken ++ l) ≡ Some (d.form, l)) (sym same) (d.before w))
+    ends : (t : Token) (z : List Token)
+        → (z ≡ []) ⊎ ((w : List Token) × (z ≡ t ∷ w)) → (d : EndsBefore (first_of k) taken t)
+        → (form : Strategy) × (read_from (first_of k) (taken ++ z) ≡ Some (form, z))
+    ends t z (inl none) d =
+        (d.form, subst (λ l. read_from (first_of k) (taken ++ l) ≡ Some (d.form, l)) (sym none) d.last)
+    ends t z (inr (w, same)) d =
+        (d.form, subst (λ l. read_from (first_of k) (taken ++ l) ≡ Some (d.form, l)) (sym same) (d.before w))
 
-    at : (y : List Token) → Alike y z → Halts (first_of k) taken true y → (form : Strategy) × (read_from (first_of k) (taken ++ z) ≡ Some (form, z))
+    at : (y : List Token) → Alike y z → Halts (first_of k) taken true y
+        → (form : Strategy) × (read_from (first_of k) (taken ++ z) ≡ Some (form, z))
     at [] a s = absurd s
     at (t ∷ ts) a s = ends t z a s
 
@@ -124,14 +136,17 @@ module _ (k : BodyPart) (front x : List Token) (y : List Token) (e : Enters (pla
   stops h = record { past = h.taken; splits = h.splits; begins = goes_on false h; next = at y h.halts } where
     at : (y : List Token) → Halts (first_of k) h.taken false y → Blocked (front ++ h.taken) y
     at [] s = tt
-    at (t ∷ ts) s = λ rest m g. non rest (e.forth (h.taken ++ t ∷ rest) (m, subst (λ l. GivesModule l m) (joined rest) g)) where
-      joined : (rest : List Token) → ((front ++ h.taken) ++ t ∷ []) ++ rest ≡ front ++ (h.taken ++ t ∷ rest)
-      joined rest = append_assoc (front ++ h.taken) (t ∷ []) rest ∙ append_assoc front h.taken (t ∷ rest)
+    at (t ∷ ts) s =
+        λ rest m g. non rest (e.forth (h.taken ++ t ∷ rest) (m, subst (λ l. GivesModule l m) (joined rest) g)) where
+          joined : (rest : List Token) → ((front ++ h.taken) ++ t ∷ []) ++ rest ≡ front ++ (h.taken ++ t ∷ rest)
+          joined rest = append_assoc (front ++ h.taken) (t ∷ []) rest ∙ append_assoc front h.taken (t ∷ rest)
 
-      non : (rest : List Token) → Begun (place.Body k) (h.taken ++ t ∷ rest) → ⊥
-      non rest (f, w, r, after) = let none : ◌≡◌ {A = Option (Strategy × List Token)} None (Some (f, w)) = sym (s rest) ∙ r in cc
+          non : (rest : List Token) → Begun (place.Body k) (h.taken ++ t ∷ rest) → ⊥
+          non rest (f, w, r, after) = let none : ◌≡◌ {A = Option (Strategy × List Token)} None (Some (f, w)) =
+              sym (s rest) ∙ r in cc
 
-across : (p : ModulePlace) (front x : List Token) (b : Bool) (y : List Token) → (e : Enters p front) → Crossed p x b y → Across p front x b y
+across : (p : ModulePlace) (front x : List Token) (b : Bool) (y : List Token) → (e : Enters p front) → Crossed p x b y
+    → Across p front x b y
 across (place.Body k) front x true y e h = whole k front x y e h
 across (place.Body k) front x false y e h = stops k front x y e h
 across place.Start front x b y e h = plain place.Start front x b y e.forth e.back h
@@ -147,7 +162,8 @@ across place.Headed front x b y e h = plain place.Headed front x b y e.forth e.b
 
 -- ---- where the tokens stop
 
-stuck_at : (ts front y : List Token) (i k : ℕ) → ts ≡ front ++ y → BeginModule front → Blocked front y → GiveModule (take i ts) → i + length y ≤ length ts → k + length y ≡ length ts → ModuleStuckAt ts i k
+stuck_at : (ts front y : List Token) (i k : ℕ) → ts ≡ front ++ y → BeginModule front → Blocked front y
+    → GiveModule (take i ts) → i + length y ≤ length ts → k + length y ≡ length ts → ModuleStuckAt ts i k
 stuck_at ts front [] i k e begins blocked before order size =
     let sum : length ts ≡ length front + 0 = ap length e ∙ length-append front [] in
     let is : length front ≡ k = omega arith in
@@ -168,7 +184,8 @@ stuck_at ts front (t ∷ u) i k e begins blocked before order size =
       order = omega arith;
       within = omega arith;
       begin = subst BeginModule (sym (ap (take k) e ∙ take_at front (t ∷ u) k is)) begins;
-      begin_none = λ lt. subst BeginNoModule (sym (ap (take (k + 1)) more ∙ take_at (front ++ t ∷ []) u (k + 1) longer)) blocked;
+      begin_none =
+          λ lt. subst BeginNoModule (sym (ap (take (k + 1)) more ∙ take_at (front ++ t ∷ []) u (k + 1) longer)) blocked;
     }
 
 -- ---- the loop from place to place
@@ -194,7 +211,8 @@ follow_starts ts = record {
 }
 
 -- an item may end before the tokens left
-pub follow_item : (ts : List Token) (p : ModulePlace) (i : ℕ) (y : List Token) (j : ℕ) → Following ts p i y → (j ≡ i) ⊎ ((j ≡ length ts - length y) × CanEnd p) → Following ts p j y
+pub follow_item : (ts : List Token) (p : ModulePlace) (i : ℕ) (y : List Token) (j : ℕ) → Following ts p i y
+    → (j ≡ i) ⊎ ((j ≡ length ts - length y) × CanEnd p) → Following ts p j y
 follow_item ts p i y j f (inl same) = subst (λ n. Following ts p n y) (sym same) f
 follow_item ts p i y j f (inr (same, can)) = subst (λ n. Following ts p n y) (sym same) (record {
   front = f.front;
@@ -213,7 +231,8 @@ follow_item ts p i y j f (inr (same, can)) = subst (λ n. Following ts p n y) (s
   empty [] = refl
   empty (t ∷ u) = inl refl
 
-module _ (ts : List Token) (p : ModulePlace) (i : ℕ) (y : List Token) (t : Token) (u : List Token) (f : Following ts p i y) (e : y ≡ t ∷ u) where
+module _ (ts : List Token) (p : ModulePlace) (i : ℕ) (y : List Token) (t : Token) (u : List Token)
+    (f : Following ts p i y) (e : y ≡ t ∷ u) where
   alike : (x : List Token) → Alike y (t ∷ x)
   alike x = subst (λ l. Alike l (t ∷ x)) (sym e) (inr (x, refl))
 
@@ -223,15 +242,19 @@ module _ (ts : List Token) (p : ModulePlace) (i : ℕ) (y : List Token) (t : Tok
       let non : StepIs p t None = subst (StepIs p t) none (step_is p t) in
       let order : i + length y ≤ length ts = f.order in
       stuck_at ts f.front y i (length ts - length y) f.splits f.begins (subst (Blocked f.front) (sym e) (λ rest m g.
-      non rest (f.stands.forth (t ∷ rest) (alike rest) (m, subst (λ l. GivesModule l m) (append_assoc f.front (t ∷ []) rest) g)))) f.module_before order (omega arith)
+      non rest (f.stands.forth (t ∷ rest) (alike rest)
+      (m, subst (λ l. GivesModule l m) (append_assoc f.front (t ∷ []) rest) g)))) f.module_before order (omega arith)
 
-  module _ (q : ModulePlace) (next : next_place p t ≡ Some q) (b : Bool) (z : List Token) (crossed : Crossed q u b z) where
+  module _ (q : ModulePlace) (next : next_place p t ≡ Some q) (b : Bool) (z : List Token)
+      (crossed : Crossed q u b z) where
     entered : Enters q (f.front ++ t ∷ [])
     entered =
         let s : Steps p t q = subst (StepIs p t) next (step_is p t) in
         record {
-          forth = λ x g. s.forth x (f.stands.forth (t ∷ x) (alike x) (subst GiveModule (append_assoc f.front (t ∷ []) x) g));
-          back = λ x r. subst GiveModule (sym (append_assoc f.front (t ∷ []) x)) (f.stands.back (t ∷ x) (alike x) (s.back x r));
+          forth = λ x g.
+              s.forth x (f.stands.forth (t ∷ x) (alike x) (subst GiveModule (append_assoc f.front (t ∷ []) x) g));
+          back = λ x r.
+              subst GiveModule (sym (append_assoc f.front (t ∷ []) x)) (f.stands.back (t ∷ x) (alike x) (s.back x r));
         }
 
     pub crossing : Across q (f.front ++ t ∷ []) u b z
@@ -249,7 +272,8 @@ module _ (ts : List Token) (p : ModulePlace) (i : ℕ) (y : List Token) (t : Tok
         let sum : length u ≡ length a.past + length z = ap length a.splits ∙ length-append a.past z in
         omega arith
 
-pub follow_goes : (ts : List Token) (p : ModulePlace) (i : ℕ) (y : List Token) (t : Token) (u : List Token) (q : ModulePlace) (z : List Token)
+pub follow_goes : (ts : List Token) (p : ModulePlace) (i : ℕ) (y : List Token) (t : Token) (u : List Token)
+    (q : ModulePlace) (z : List Token)
     → Following ts p i y → y ≡ t ∷ u → next_place p t ≡ Some q → Crossed q u true z → Following ts q i z
 follow_goes ts p i y t u q z f e next crossed =
     let a : Across q (f.front ++ t ∷ []) u true z = crossing ts p i y t u f e q next true z crossed in
@@ -267,14 +291,19 @@ follow_goes ts p i y t u q z f e next crossed =
       depth = omega arith;
     }
 
-pub follow_halts : (ts : List Token) (p : ModulePlace) (i : ℕ) (y : List Token) (t : Token) (u : List Token) (q : ModulePlace) (z : List Token)
-    → Following ts p i y → y ≡ t ∷ u → next_place p t ≡ Some q → Crossed q u false z → ModuleStuckAt ts i (length ts - length z)
+pub follow_halts : (ts : List Token) (p : ModulePlace) (i : ℕ) (y : List Token) (t : Token) (u : List Token)
+    (q : ModulePlace) (z : List Token)
+    → Following ts p i y → y ≡ t ∷ u → next_place p t ≡ Some q → Crossed q u false z
+    → ModuleStuckAt ts i (length ts - length z)
 follow_halts ts p i y t u q z f e next crossed =
     let a : Across q (f.front ++ t ∷ []) u false z = crossing ts p i y t u f e q next false z crossed in
     let less : length z < length y = crossed_shorter ts p i y t u f e q next false z crossed in
     let order : i + length y ≤ length ts = f.order in
-    stuck_at ts ((f.front ++ t ∷ []) ++ a.past) z i (length ts - length z) (all ts p i y t u f e q next false z crossed a) a.begins a.next f.module_before (omega arith) (omega arith)
+    stuck_at ts ((f.front ++ t ∷ []) ++ a.past) z i (length ts - length z)
+    (all ts p i y t u f e q next false z crossed a) a.begins a.next f.module_before (omega arith) (omega arith)
 
-pub follow_ends : (ts : List Token) (p : ModulePlace) (i : ℕ) (y : List Token) → Following ts p i y → length y ≡ 0 → ModuleStuckAt ts i (length ts)
+pub follow_ends : (ts : List Token) (p : ModulePlace) (i : ℕ) (y : List Token) → Following ts p i y
+    → length y ≡ 0 → ModuleStuckAt ts i (length ts)
 follow_ends ts p i (t ∷ u) f none = absurd (omega arith)
-follow_ends ts p i [] f none = stuck_at ts f.front [] i (length ts) f.splits f.begins tt f.module_before f.order (omega arith)
+follow_ends ts p i [] f none =
+    stuck_at ts f.front [] i (length ts) f.splits f.begins tt f.module_before f.order (omega arith)

@@ -17,8 +17,10 @@ bytes-begin-none x k p got none le = λ more r gives.
     let whole : u ++ v ≡ x = take-append-drop (p.end + 2) x in
     let size : length u ≡ p.end + 2 = length-take-le (p.end + 2) x le in
     let there : slice_get (places (u ++ v)) k ≡ Some p = ap (λ l. slice_get (places l) k) whole ∙ got in
-    let same : take (suc k) (tokens (u ++ more)) ≡ take (suc k) (tokens (u ++ v)) = same_tokens u v more k p there (omega arith) in
-    let front : take (k + 1) (tokens (u ++ more)) ≡ take (k + 1) (tokens x) = rw add-one (same ∙ ap (λ l. take (suc k) (tokens l)) whole) in
+    let same : take (suc k) (tokens (u ++ more)) ≡ take (suc k) (tokens (u ++ v)) =
+    same_tokens u v more k p there (omega arith) in
+    let front : take (k + 1) (tokens (u ++ more)) ≡ take (k + 1) (tokens x) =
+    rw add-one (same ∙ ap (λ l. take (suc k) (tokens l)) whole) in
     let split : tokens (u ++ more) ≡ take (k + 1) (tokens x) ++ drop (k + 1) (tokens (u ++ more)) =
     sym (take-append-drop (k + 1) (tokens (u ++ more))) ∙ ap (λ l. l ++ drop (k + 1) (tokens (u ++ more))) front in
     none (drop (k + 1) (tokens (u ++ more))) r (subst (λ l. GivesStrategy l r) split gives)

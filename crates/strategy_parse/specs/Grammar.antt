@@ -53,7 +53,8 @@ abbrev mutual
   ReadsPattern (number z) = Next (Integer z)
   -- a string is its quoted name without patterns
   ReadsPattern (compound (applied f) ps) =
-      λ u v. (Next (Text f) u v × (ps ≡ no_patterns)) ⊎ (Next (Ident f) ▸ Mark OpenRound ▸ ReadsPatterns ps CloseRound) u v
+      λ u v.
+      (Next (Text f) u v × (ps ≡ no_patterns)) ⊎ (Next (Ident f) ▸ Mark OpenRound ▸ ReadsPatterns ps CloseRound) u v
   ReadsPattern (compound list ps) = Mark OpenSquare ▸ ReadsPatterns ps CloseSquare
   ReadsPattern (compound tuple ps) = Mark OpenRound ▸ ReadsPatterns ps CloseRound
   ReadsPattern (with_tail ps p) =

@@ -52,7 +52,8 @@ ReadsParameters ss ts =
 
 abbrev pub ReadsHeader : Header → Reading
 ReadsHeader h =
-    Next (Ident h.name) ▸ (λ x y. (Mark OpenRound ▸ ReadsParameters h.strategies h.terms) x y ⊎ ((y ≡ x) × (h.strategies ≡ []) × (h.terms ≡ [])))
+    Next (Ident h.name) ▸ (λ x y. (Mark OpenRound ▸ ReadsParameters h.strategies h.terms) x y
+    ⊎ ((y ≡ x) × (h.strategies ≡ []) × (h.terms ≡ [])))
 
 abbrev pub ReadsDefined : Defined → Reading
 ReadsDefined (definition h a) = ReadsHeader h ▸ Mark Equals ▸ ReadsChoice a

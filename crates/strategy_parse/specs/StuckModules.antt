@@ -20,8 +20,8 @@ BeginModule ts = (rest : List Token) × GiveModule (ts ++ rest)
 abbrev pub BeginNoModule : List Token → Type 0
 BeginNoModule ts = (rest : List Token) → GiveNone (ts ++ rest)
 
--- The tokens before the item are a module. Those before the token k begin one, and with it they begin none; if there is no such
--- token, all begin one.
+-- The tokens before the item are a module. Those before the token k begin one, and with it they begin none; if there is
+-- no such token, all begin one.
 pub record ModuleStuckAt (ts : List Token) (item k : ℕ) : Type 0 where
   pub module_before : GiveModule (take item ts)
   pub order : item ≤ k

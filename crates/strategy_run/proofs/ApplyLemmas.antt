@@ -45,10 +45,12 @@ low_at (i ∷ p) t u e =
 
 -- ---- edits one after the other, in a slot's tree
 
-pub edits_make : (e : Edits) (t u : Tree) (slot : ℕ) (s : Store) → content s.trees slot ≡ Some t → Replaces e t u → Makes slot e u s
+pub edits_make : (e : Edits) (t u : Tree) (slot : ℕ) (s : Store) → content s.trees slot ≡ Some t → Replaces e t u
+    → Makes slot e u s
 edits_make [] t u slot s h r =
     let there : content s.trees slot ≡ Some u = h ∙ ap (λ x. Some x) r in
-    let stays : with_content s.trees slot (Some u) ≡ s.trees = ap (with_content s.trees slot) (sym there) ∙ same_content s.trees slot in
+    let stays : with_content s.trees slot (Some u) ≡ s.trees = ap (with_content s.trees slot) (sym there)
+    ∙ same_content s.trees slot in
     record { tree = sym (λ i. record s { trees = stays i }); places = tt }
 edits_make (x ∷ e) t u slot s h r =
     let next = set_at t x.path x.new in
@@ -56,7 +58,8 @@ edits_make (x ∷ e) t u slot s h r =
     let once : put (entry_at slot x) s ≡ s1 = subterm_put s slot x.path t x.new h in
     let rest = edits_make e next u slot s1 (content_put s.trees slot t next h) r.1 in
     record {
-      tree = ap (after (entries_at slot e)) once ∙ rest.tree ∙ (λ i. record s { trees = content_twice s.trees slot (Some next) (Some u) i });
+      tree = ap (after (entries_at slot e)) once
+          ∙ rest.tree ∙ (λ i. record s { trees = content_twice s.trees slot (Some next) (Some u) i });
       places = (
         subst (λ o. IsSome (option_and_then (λ y. at y x.path) o)) (sym h) r.0,
         subst (FitsForward (entries_at slot e)) (sym once) rest.places,
@@ -65,20 +68,27 @@ edits_make (x ∷ e) t u slot s h r =
 
 -- ---- the outcome of a run
 
-at_place : (s : Store) (slot : ℕ) (t u : Tree) (p : List ℕ) → content s.trees slot ≡ Some t → at t p ≡ Some u → subterm_in s.trees slot p ≡ Some u
+at_place : (s : Store) (slot : ℕ) (t u : Tree) (p : List ℕ) → content s.trees slot ≡ Some t → at t p ≡ Some u
+    → subterm_in s.trees slot p ≡ Some u
 at_place s slot t u p h k = ap (option_and_then (λ y. at y p)) h ∙ k
 
-pub applied_there : (W : World) (p : List ℕ) (r : Resolved) (b : ℕ) (t u : Tree) (a : Answer) → at t p ≡ Some u → run_whole W (length p) r b u ≡ a → applied W p r b t ≡ placed t p a
-applied_there W p r b t u a k is = ap (λ o. option_map_or (λ x. placed t p (run_whole W (length p) r b x)) o fails) k ∙ ap (placed t p) is
+pub applied_there : (W : World) (p : List ℕ) (r : Resolved) (b : ℕ) (t u : Tree) (a : Answer) → at t p ≡ Some u
+    → run_whole W (length p) r b u ≡ a → applied W p r b t ≡ placed t p a
+applied_there W p r b t u a k is = ap (λ o. option_map_or (λ x. placed t p (run_whole W (length p) r b x)) o fails) k
+    ∙ ap (placed t p) is
 
-pub applied_nowhere : (W : World) (p : List ℕ) (r : Resolved) (b : ℕ) (t : Tree) → at t p ≡ None → applied W p r b t ≡ fails
+pub applied_nowhere : (W : World) (p : List ℕ) (r : Resolved) (b : ℕ) (t : Tree)
+    → at t p ≡ None → applied W p r b t ≡ fails
 applied_nowhere W p r b t k = ap (λ o. option_map_or (λ x. placed t p (run_whole W (length p) r b x)) o fails) k
 
-pub low_part : (p : List ℕ) (t u : Tree) → at t p ≡ Some u → IfSome (at t p) (λ x. length p + height x ≤ MAX_HEIGHT) → length p + height u ≤ MAX_HEIGHT
+pub low_part : (p : List ℕ) (t u : Tree) → at t p ≡ Some u
+    → IfSome (at t p) (λ x. length p + height x ≤ MAX_HEIGHT) → length p + height u ≤ MAX_HEIGHT
 low_part p t u k low = subst (λ o. IfSome o (λ x. length p + height x ≤ MAX_HEIGHT)) k low
 
-pub finds : (W : World) (p : Standing) (path : List ℕ) (es : List Entry) (t u : Tree) (r : Resolved) (b : ℕ) (S : State) (s : Store) (slot : ℕ)
-    → at t path ≡ Some u → IsDone (unchanged u) (run_whole W (length path) r b u) S p → ((e : Edits) → Shows S.trail e → es ≡ entries_at slot (prefixed path e))
+pub finds : (W : World) (p : Standing) (path : List ℕ) (es : List Entry) (t u : Tree) (r : Resolved) (b : ℕ) (S : State)
+    (s : Store) (slot : ℕ)
+    → at t path ≡ Some u → IsDone (unchanged u) (run_whole W (length path) r b u) S p
+    → ((e : Edits) → Shows S.trail e → es ≡ entries_at slot (prefixed path e))
     → content s.trees slot ≡ Some t → FindsAll s slot (applied W path r b t) es
 finds W p path es t u r b S s slot k d l h =
     let v = standing_tree p in (
@@ -86,7 +96,8 @@ finds W p path es t u r b S s slot k d l h =
       prefixed path d.edits,
       applied_there W path r b t u _ k d.is,
       l d.edits d.shows,
-      edits_make (prefixed path d.edits) t (set_at t path v) slot s h (edits_of_a_subterm d.edits t u v path k d.leads.made),
+      edits_make (prefixed path d.edits) t (set_at t path v) slot s h
+          (edits_of_a_subterm d.edits t u v path k d.leads.made),
     )
 
 -- ---- the outcome is put in place
@@ -106,7 +117,8 @@ puts whole es slot s t log longer f te le back fit =
         tree = store ∙ f.4.tree;
         after = le ∙ ap (λ x. log ++ flipped_forward x s) is;
         back = ap (before (flipped_forward (entries_at slot e) s)) store ∙ store_from_before (entries_at slot e) s;
-        fits = subst (Fits (flipped_forward (entries_at slot e) s)) (sym store) (flipped_forward_fits (entries_at slot e) s f.4.places);
+        fits = subst (Fits (flipped_forward (entries_at slot e) s)) (sym store)
+            (flipped_forward_fits (entries_at slot e) s f.4.places);
         log_back = back;
         log_fits = λ h. fit h (subst (λ x. FitsForward x s) (sym is) f.4.places);
       },
@@ -114,12 +126,16 @@ puts whole es slot s t log longer f te le back fit =
 
 -- the condition, for the tree that is in the slot
 pub low_there : (s : Store) (slot : ℕ) (p : List ℕ) (t : Tree) → content s.trees slot ≡ Some t
-    → IfSome (subterm_in s.trees slot p) (λ u. length p + height u ≤ MAX_HEIGHT) → IfSome (at t p) (λ u. length p + height u ≤ MAX_HEIGHT)
-low_there s slot p t h low = subst (λ o. IfSome (option_and_then (λ y. at y p) o) (λ u. length p + height u ≤ MAX_HEIGHT)) h low
+    → IfSome (subterm_in s.trees slot p) (λ u. length p + height u ≤ MAX_HEIGHT) → IfSome (at t p)
+    (λ u. length p + height u ≤ MAX_HEIGHT)
+low_there s slot p t h low =
+    subst (λ o. IfSome (option_and_then (λ y. at y p) o) (λ u. length p + height u ≤ MAX_HEIGHT)) h low
 
 -- the outcome if the slot has a tree, and if it has none
-pub in_tree : (W : World) (s : Store) (slot : ℕ) (p : List ℕ) (r : Resolved) (b : ℕ) (t : Tree) → content s.trees slot ≡ Some t → applied_in W s.trees slot p r b ≡ applied W p r b t
+pub in_tree : (W : World) (s : Store) (slot : ℕ) (p : List ℕ) (r : Resolved) (b : ℕ) (t : Tree)
+    → content s.trees slot ≡ Some t → applied_in W s.trees slot p r b ≡ applied W p r b t
 in_tree W s slot p r b t h = ap (λ o. option_map_or (applied W p r b) o fails) h
 
-pub in_none : (W : World) (s : Store) (slot : ℕ) (p : List ℕ) (r : Resolved) (b : ℕ) → content s.trees slot ≡ None → applied_in W s.trees slot p r b ≡ fails
+pub in_none : (W : World) (s : Store) (slot : ℕ) (p : List ℕ) (r : Resolved) (b : ℕ)
+    → content s.trees slot ≡ None → applied_in W s.trees slot p r b ≡ fails
 in_none W s slot p r b h = ap (λ o. option_map_or (applied W p r b) o fails) h

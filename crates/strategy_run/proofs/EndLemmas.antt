@@ -21,11 +21,13 @@ use Rattle.strategy_machine.proofs.LeadLemmas.{leads_nothing}
 use Rattle.strategy_machine.proofs.OpenLemmas.{with_edits-none}
 use Rattle.strategy_machine.proofs.ScopeLemmas.{one_more_there, one_more_is}
 
-pub starts : (W : World) (m : Machine) (D : CellContents) (bs es : List Scope) (r : Resolved) (s : Bor ResolvedStrategy) (t : Tree) (n : ℕ) (p : Standing)
+pub starts : (W : World) (m : Machine) (D : CellContents) (bs es : List Scope) (r : Resolved) (s : Bor ResolvedStrategy)
+    (t : Tree) (n : ℕ) (p : Standing)
     → IsEmpty m → D.bindings ≡ m.cells.bindings ++ replicate r.variables None → n ≡ length bs
     → es ≡ bs ++ with_variables nowhere 0 r.variables ∷ [] → p ≡ unchanged t → s.now ≡ r.strategy
     → HoldsIn W (unchanged t) (run_whole W m.level r m.steps t)
-    (record { cells = D; scopes = es; trail = m.trail; level = m.level; frames = reverse m.frames; steps = m.steps }) (Begin s n p)
+    (record { cells = D; scopes = es; trail = m.trail; level = m.level; frames = reverse m.frames; steps = m.steps })
+    (Begin s n p)
 starts W m D bs es r s t n p k de ne ee pe se =
     let E = inside (numbers_from 0 r.variables) no_closures in
     let there = one_more_is bs es (with_variables nowhere 0 r.variables) ne ee in
@@ -42,10 +44,12 @@ starts W m D bs es r s t n p k de ne ee pe se =
         before = [];
         leads = leads_nothing p (subst Has (sym pe) tt);
         trail = refl;
-        is = subst (λ fs. Meets W (unchanged t) (run_whole W m.level r m.steps t) D (mark_of D) es m.level (reverse fs) p [] (with_edits [] a)) (sym k.frames)
+        is = subst (λ fs. Meets W (unchanged t) (run_whole W m.level r m.steps t) D (mark_of D) es m.level (reverse fs)
+            p [] (with_edits [] a)) (sym k.frames)
             (pe, refl, with_edits-none a ∙ (λ i. run W (there i) m.level (se i) m.steps (B i) (standing_tree (pe i))));
       };
     }
 
-pub after_is : (W : World) (sub : Standing) (whole : Answer) (m : Machine) {x y : Turned} → x ≡ y → After W sub whole m x → After W sub whole m y
+pub after_is : (W : World) (sub : Standing) (whole : Answer) (m : Machine) {x y : Turned}
+    → x ≡ y → After W sub whole m x → After W sub whole m y
 after_is W sub whole m e h = subst (λ (z : Turned). After W sub whole m z) e h

@@ -39,7 +39,8 @@ prefixed_root : (e : Edits) → prefixed [] e ≡ e
 prefixed_root [] = refl
 prefixed_root (x ∷ e) = ap (λ l. x ∷ l) (prefixed_root e)
 
-pub part_gives : (t : Tree) (b : ℕ) (whole : Answer) (S : State) (p : Standing) (taken : ℕ) → IsDone (unchanged t) whole S p → taken ≡ b - S.steps
+pub part_gives : (t : Tree) (b : ℕ) (whole : Answer) (S : State) (p : Standing) (taken : ℕ)
+    → IsDone (unchanged t) whole S p → taken ≡ b - S.steps
     → Gives t b whole (places (standing_change p)) taken
 part_gives t b whole S p taken d took =
     let c = standing_change p in
@@ -62,12 +63,15 @@ part_gives t b whole S p taken d took =
 -- ---- in the tree of a slot
 
 -- There, the outcome is the tree with the resulting term at the path.
-pub gives_there : (W : World) (path : List ℕ) (r : Resolved) (b : ℕ) (t u : Tree) (ps : Edits) (taken : ℕ) → at t path ≡ Some u
-    → (g : Gives u b (run_whole W (length path) r b u) ps taken) → applied W path r b t ≡ gives (set_at t path g.after) (prefixed path g.edits)
+pub gives_there : (W : World) (path : List ℕ) (r : Resolved) (b : ℕ) (t u : Tree) (ps : Edits) (taken : ℕ)
+    → at t path ≡ Some u
+    → (g : Gives u b (run_whole W (length path) r b u) ps taken)
+    → applied W path r b t ≡ gives (set_at t path g.after) (prefixed path g.edits)
 gives_there W path r b t u ps taken k g = applied_there W path r b t u _ k g.is
 
 -- Setting the places there makes it.
-pub makes_there : (slot : ℕ) (s : Store) (path : List ℕ) (b : ℕ) (whole : Answer) (t u : Tree) (ps : Edits) (taken : ℕ) → content s.trees slot ≡ Some t → at t path ≡ Some u
+pub makes_there : (slot : ℕ) (s : Store) (path : List ℕ) (b : ℕ) (whole : Answer) (t u : Tree) (ps : Edits) (taken : ℕ)
+    → content s.trees slot ≡ Some t → at t path ≡ Some u
     → (g : Gives u b whole ps taken) → Makes slot (prefixed path ps) (set_at t path g.after) s
 makes_there slot s path b whole t u ps taken h k g =
     edits_make (prefixed path ps) t (set_at t path g.after) slot s h (edits_of_a_subterm ps t u g.after path k g.made)

@@ -20,7 +20,8 @@ applied_in W slots i p r b = option_map_or (applied W p r b) (content slots i) f
 -- From a store and a log to these: the slot's tree is u, and the log has a new entry for each of
 -- the edits, in order. The new entries lead back, and fit; so the whole log still leads back to the
 -- same store, and fits if it did.
-pub record PutsAll (slot : ℕ) (e : Edits) (u : Tree) (s : Store) (log : List Entry) (t : Store) (longer : List Entry) : Type 0 where
+pub record PutsAll (slot : ℕ) (e : Edits) (u : Tree) (s : Store) (log : List Entry) (t : Store)
+    (longer : List Entry) : Type 0 where
   pub tree : t ≡ put (slot_tree slot (Some u)) s
   pub after : longer ≡ log ++ flipped_forward (entries_at slot e) s
   pub back : before (flipped_forward (entries_at slot e) s) t ≡ s

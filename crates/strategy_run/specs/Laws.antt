@@ -7,4 +7,5 @@ use Rattle.term_paths.specs.Paths.{at}
 
 -- In a tree that isn't too high, each subterm is low enough at its level, the length of its path.
 abbrev pub SubtermsAreLowEnough : Type 0
-SubtermsAreLowEnough = (p : List ℕ) (t u : Tree) → at t p ≡ Some u → height t ≤ MAX_HEIGHT → length p + height u ≤ MAX_HEIGHT
+SubtermsAreLowEnough = (p : List ℕ) (t u : Tree) → at t p ≡ Some u
+    → height t ≤ MAX_HEIGHT → length p + height u ≤ MAX_HEIGHT

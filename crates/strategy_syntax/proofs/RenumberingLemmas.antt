@@ -23,7 +23,8 @@ pub partly-all : (numbers : List ℕ) (i : ℕ) (ss : List ResolvedStrategy) →
     → resolveds_of (partly numbers i ss) ≡ all_renumbered numbers (resolveds_of ss)
 partly-all numbers i [] h = refl
 partly-all numbers zero (s ∷ ss) h = absurd (omega (arith, h))
-partly-all numbers (suc i) (s ∷ ss) h = ap (λ r. and_strategy (renumbered numbers s) r) (partly-all numbers i ss (omega (arith, h)))
+partly-all numbers (suc i) (s ∷ ss) h =
+    ap (λ r. and_strategy (renumbered numbers s) r) (partly-all numbers i ss (omega (arith, h)))
 
 -- the element at i is the original one
 pub partly-at : (numbers : List ℕ) (i : ℕ) (ss : List ResolvedStrategy) (d : ResolvedStrategy) → i < length ss
@@ -36,7 +37,8 @@ pub partly-set : (numbers : List ℕ) (i : ℕ) (ss : List ResolvedStrategy) (d 
     → slice_set (partly numbers i ss) i (renumbered numbers (get_or ss i d)) ≡ partly numbers (suc i) ss
 partly-set numbers i [] d h = absurd (omega (arith, h))
 partly-set numbers zero (s ∷ ss) d h = ap (λ r. renumbered numbers s ∷ r) (partly-none numbers ss)
-partly-set numbers (suc i) (s ∷ ss) d h = ap (λ r. renumbered numbers s ∷ r) (partly-set numbers i ss d (omega (arith, h)))
+partly-set numbers (suc i) (s ∷ ss) d h =
+    ap (λ r. renumbered numbers s ∷ r) (partly-set numbers i ss d (omega (arith, h)))
 
 pub shallow : (i : ℕ) (ss : List ResolvedStrategy) (d : ResolvedStrategy) → i < length ss
     → depth (get_or ss i d) ≤ depths (resolveds_of ss)

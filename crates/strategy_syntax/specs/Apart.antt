@@ -57,5 +57,6 @@ is_apart p r (Some (i, c)) = is_other (pattern_class p) r || is_other (child_cla
 -- the first n alternatives are rules, or like them, that no such term matches
 abbrev pub AreApart : ℕ → ResolvedStrategy → ℕ → Option (ℕ × ℕ) → Type 0
 AreApart zero s r c = ⊤
-AreApart (suc n) s r c = (k : ℕ) × (p : ResolvedPattern) × (then : ResolvedStrategy) × (second : ResolvedStrategy) × (rest : ResolvedStrategy)
+AreApart (suc n) s r c = (k : ℕ) × (p : ResolvedPattern) × (then : ResolvedStrategy) × (second : ResolvedStrategy)
+    × (rest : ResolvedStrategy)
     × (s ≡ guard (scope k (seq (matches p) then)) second rest) × (is_apart p r c ≡ true) × AreApart n rest r c

@@ -7,9 +7,11 @@ use Rattle.strategy_tokens.specs.declared.token.Token.{Token}
 use Rattle.strategy_tokens.specs.Items.{runs_fit, items_fit, begins_item, may_end, module_tokens}
 
 -- a row that is too long stays so
-long_run-at : (n : ℕ) (e : Bool) (t : Token) (ts : List Token) (starts : Bool) → begins_item e t ≡ starts → MAX_TOKENS < n
+long_run-at : (n : ℕ) (e : Bool) (t : Token) (ts : List Token) (starts : Bool)
+    → begins_item e t ≡ starts → MAX_TOKENS < n
     → ((m : ℕ) → MAX_TOKENS < m → runs_fit m (may_end t) ts ≡ false) → runs_fit n e (t ∷ ts) ≡ false
-long_run-at n e t ts true s h more = let long : nat_le n MAX_TOKENS ≡ false = grind (arith, nat_tests) in rw s (rw long refl)
+long_run-at n e t ts true s h more = let long : nat_le n MAX_TOKENS ≡ false = grind (arith, nat_tests) in
+    rw s (rw long refl)
 long_run-at n e t ts false s h more = rw s (more (suc n) (omega arith))
 
 pub long_run : (n : ℕ) (e : Bool) (ts : List Token) → MAX_TOKENS < n → runs_fit n e ts ≡ false
@@ -17,7 +19,8 @@ long_run n e [] h = grind (arith, nat_tests)
 long_run n e (t ∷ ts) h = long_run-at n e t ts (begins_item e t) refl h (λ m. long_run m (may_end t) ts)
 
 -- with no more tokens than that altogether there is nowhere a longer row
-short_runs-at : (n : ℕ) (e : Bool) (t : Token) (ts : List Token) (starts : Bool) → begins_item e t ≡ starts → n + suc (length ts) ≤ MAX_TOKENS
+short_runs-at : (n : ℕ) (e : Bool) (t : Token) (ts : List Token) (starts : Bool)
+    → begins_item e t ≡ starts → n + suc (length ts) ≤ MAX_TOKENS
     → ((m : ℕ) → m + length ts ≤ MAX_TOKENS → runs_fit m (may_end t) ts ≡ true) → runs_fit n e (t ∷ ts) ≡ true
 short_runs-at n e t ts true s h more =
     let fits : nat_le n MAX_TOKENS ≡ true = grind (arith, nat_tests) in
@@ -31,7 +34,8 @@ short_runs n e (t ∷ ts) h = short_runs-at n e t ts (begins_item e t) refl h (�
 pub short_texts : (ts : List Token) → length ts ≤ MAX_TOKENS → items_fit ts ≡ true
 short_texts ts h = short_runs 0 false ts (omega arith)
 
-unfit-at : (ts : List Token) → items_fit ts ≡ false → (fits : Bool) → nat_le (length ts) MAX_TOKENS ≡ fits → MAX_TOKENS < length ts
+unfit-at : (ts : List Token) → items_fit ts ≡ false → (fits : Bool)
+    → nat_le (length ts) MAX_TOKENS ≡ fits → MAX_TOKENS < length ts
 unfit-at ts h true e = absurd (true≢false (sym (short_texts ts (grind (arith, nat_tests))) ∙ h))
 unfit-at ts h false e = grind (arith, nat_tests)
 

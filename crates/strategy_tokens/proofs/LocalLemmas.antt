@@ -25,7 +25,8 @@ one_less : (o : Option ℕ) (k : ℕ) → option_map suc o ≡ Some k → OneLes
 one_less None k e = let no : ◌≡◌ {A = Option ℕ} None (Some k) = e in cc
 one_less (Some j) k e = let same : ◌≡◌ {A = Option ℕ} (Some (suc j)) (Some k) = e in (j, refl, cc)
 
-up : (o p : Option ℕ) (n : ℕ) → option_map suc o ≡ Some n → ((j : ℕ) → o ≡ Some j → suc j ≡ n → p ≡ Some j) → option_map suc p ≡ Some n
+up : (o p : Option ℕ) (n : ℕ) → option_map suc o ≡ Some n → ((j : ℕ) → o ≡ Some j → suc j ≡ n → p ≡ Some j)
+    → option_map suc p ≡ Some n
 up o p n e h =
     let less = one_less o n e in
     ap (option_map suc) (h less.0 less.1 (sym less.2)) ∙ ap (λ m. Some m) (sym less.2)
@@ -36,11 +37,14 @@ one-step : (t : Bool) (m n l : ℕ) → cond t (1 + m) 0 < suc l → (m < l → 
 one-step true m n l lt h = ap (λ k. 1 + k) (h (omega arith))
 one-step false m n l lt h = refl
 
-prefix-local : (p : ℕ → Bool) (u v w : List ℕ) → prefix_len p (u ++ v) < length u → prefix_len p (u ++ w) ≡ prefix_len p (u ++ v)
+prefix-local : (p : ℕ → Bool) (u v w : List ℕ) → prefix_len p (u ++ v) < length u
+    → prefix_len p (u ++ w) ≡ prefix_len p (u ++ v)
 prefix-local p [] v w lt = absurd (omega arith)
-prefix-local p (b ∷ u) v w lt = one-step (p b) (prefix_len p (u ++ v)) (prefix_len p (u ++ w)) (length u) lt (prefix-local p u v w)
+prefix-local p (b ∷ u) v w lt =
+    one-step (p b) (prefix_len p (u ++ v)) (prefix_len p (u ++ w)) (length u) lt (prefix-local p u v w)
 
-ident-step : (t : Bool) (m n l : ℕ) → (if t then suc m else 0) + 2 ≤ suc l → (m + 2 ≤ l → n ≡ m) → (if t then suc n else 0) ≡ (if t then suc m else 0)
+ident-step : (t : Bool) (m n l : ℕ) → (if t then suc m else 0) + 2 ≤ suc l
+    → (m + 2 ≤ l → n ≡ m) → (if t then suc n else 0) ≡ (if t then suc m else 0)
 ident-step true m n l le h = ap suc (h (omega arith))
 ident-step false m n l le h = refl
 
@@ -48,10 +52,12 @@ ident-local : (u v w : List ℕ) → ident_len (u ++ v) + 2 ≤ length u → ide
 ident-local [] v w le = absurd (omega arith)
 ident-local (b ∷ []) v w le = absurd (omega arith)
 ident-local (b ∷ (c ∷ u)) v w le =
-    ident-step (continues_ident b ((c ∷ u) ++ v)) (ident_len ((c ∷ u) ++ v)) (ident_len ((c ∷ u) ++ w)) (length (c ∷ u)) le (ident-local (c ∷ u) v w)
+    ident-step (continues_ident b ((c ∷ u) ++ v)) (ident_len ((c ∷ u) ++ v)) (ident_len ((c ∷ u) ++ w)) (length (c ∷ u))
+    le (ident-local (c ∷ u) v w)
 
 -- a comment ends after two bytes at least
-two-step : (t : Bool) (o : Option ℕ) (n : ℕ) → (if t then Some 2 else option_map suc o) ≡ Some n → ((j : ℕ) → o ≡ Some j → 2 ≤ j) → 2 ≤ n
+two-step : (t : Bool) (o : Option ℕ) (n : ℕ) → (if t then Some 2 else option_map suc o) ≡ Some n
+    → ((j : ℕ) → o ≡ Some j → 2 ≤ j) → 2 ≤ n
 two-step true o n e h = let same : ◌≡◌ {A = Option ℕ} (Some 2) (Some n) = e in let is : 2 ≡ n = cc in omega arith
 two-step false o n e h =
     let less = one_less o n e in
@@ -72,7 +78,8 @@ comment-local : (u v w : List ℕ) (n : ℕ) → comment_len (u ++ v) ≡ Some n
 comment-local [] v w n e le = let two = comment-two v n e in absurd (omega arith)
 comment-local (b ∷ []) v w n e le = let two = comment-two (b ∷ v) n e in absurd (omega arith)
 comment-local (b ∷ (c ∷ u)) v w n e le =
-    comment-step ((b == 42) && begins_with 47 ((c ∷ u) ++ v)) (comment_len ((c ∷ u) ++ v)) (comment_len ((c ∷ u) ++ w)) n (length (c ∷ u)) e le
+    comment-step ((b == 42) && begins_with 47 ((c ∷ u) ++ v)) (comment_len ((c ∷ u) ++ v)) (comment_len ((c ∷ u) ++ w))
+    n (length (c ∷ u)) e le
     (comment-local (c ∷ u) v w)
 
 quote-step : (s t : Bool) (a b c d : Option ℕ) (n l : ℕ)
@@ -87,12 +94,14 @@ mutual
   quote-local : (u v w : List ℕ) (n : ℕ) → quote_at (u ++ v) ≡ Some n → n < length u → quote_at (u ++ w) ≡ Some n
   quote-local [] v w n e lt = absurd (omega arith)
   quote-local (b ∷ u) v w n e lt =
-      quote-step (b == quote) (b == backslash) (quote_after (u ++ v)) (quote_after (u ++ w)) (quote_at (u ++ v)) (quote_at (u ++ w)) n (length u) e lt
+      quote-step (b == quote) (b == backslash) (quote_after (u ++ v)) (quote_after (u ++ w)) (quote_at (u ++ v))
+      (quote_at (u ++ w)) n (length u) e lt
       (λ j at below. after-local u v w j at below) (λ j at below. quote-local u v w j at below)
 
   after-local : (u v w : List ℕ) (n : ℕ) → quote_after (u ++ v) ≡ Some n → n < length u → quote_after (u ++ w) ≡ Some n
   after-local [] v w n e lt = absurd (omega arith)
-  after-local (b ∷ u) v w n e lt = up (quote_at (u ++ v)) (quote_at (u ++ w)) n e (λ j at is. quote-local u v w j at (omega arith))
+  after-local (b ∷ u) v w n e lt =
+      up (quote_at (u ++ v)) (quote_at (u ++ w)) n e (λ j at is. quote-local u v w j at (omega arith))
 
 -- ---- pieces
 
@@ -118,14 +127,16 @@ words b bs = token_of (ident_token (b ∷ take (ident_len bs) bs)) (ident_len bs
 
 words-local : (b : ℕ) → Local 2 (words b)
 words-local b u v w le =
-    fronts (λ l. ident_token (b ∷ l)) (λ n. n) u v w (ident_len (u ++ v)) (ident_len (u ++ w)) (ident-local u v w le) (omega arith)
+    fronts (λ l. ident_token (b ∷ l)) (λ n. n) u v w (ident_len (u ++ v)) (ident_len (u ++ w)) (ident-local u v w le)
+    (omega arith)
 
 abbrev numbers : ℕ → List ℕ → Lexeme
 numbers b bs = token_of (integer_token (b ∷ take (prefix_len is_ascii_digit bs) bs)) (prefix_len is_ascii_digit bs)
 
 numbers-local : (b : ℕ) → Local 2 (numbers b)
 numbers-local b u v w le =
-    fronts (λ l. integer_token (b ∷ l)) (λ n. n) u v w (prefix_len is_ascii_digit (u ++ v)) (prefix_len is_ascii_digit (u ++ w))
+    fronts (λ l. integer_token (b ∷ l)) (λ n. n) u v w
+    (prefix_len is_ascii_digit (u ++ v)) (prefix_len is_ascii_digit (u ++ w))
     (prefix-local is_ascii_digit u v w (omega arith)) (omega arith)
 
 abbrev negatives : ℕ → List ℕ → Lexeme
@@ -134,7 +145,8 @@ negatives b bs =
 
 negatives-local : (b : ℕ) → Local 1 (negatives b)
 negatives-local b u v w le =
-    fronts (λ l. integer_token (minus ∷ (b ∷ l))) suc u v w (prefix_len is_ascii_digit (u ++ v)) (prefix_len is_ascii_digit (u ++ w))
+    fronts (λ l. integer_token (minus ∷ (b ∷ l))) suc u v w
+    (prefix_len is_ascii_digit (u ++ v)) (prefix_len is_ascii_digit (u ++ w))
     (prefix-local is_ascii_digit u v w (omega arith)) (omega arith)
 
 -- after a `-`
@@ -145,7 +157,8 @@ minus-local : Local 2 minus_piece
 minus-local [] v w le = absurd (omega arith)
 minus-local (b ∷ u) v w le =
     local_if 1 (b == 62) (λ bs. token_of (ASign Arrow) 1) (after_minus b) (λ x y z h. refl)
-    (local_if 1 (is_ascii_digit b) (negatives b) (λ bs. token_of Bad 0) (negatives-local b) (λ x y z h. refl)) u v w (omega arith)
+    (local_if 1 (is_ascii_digit b) (negatives b) (λ bs. token_of Bad 0) (negatives-local b) (λ x y z h. refl)) u v w
+    (omega arith)
 
 -- comments
 abbrev line_comment : List ℕ → Lexeme
@@ -178,11 +191,13 @@ comment_piece-local (b ∷ u) v w le =
     (local_if 1 (b == 42) long_comment (λ bs. token_of Bad 0) long_comment-local (λ x y z h. refl)) u v w (omega arith)
 
 -- strings
-closed_string-step : (o p : Option ℕ) (x y : List ℕ) (m : ℕ) → ((n : ℕ) → o ≡ Some n → n < m → p ≡ Some n) → m ≤ length x
+closed_string-step : (o p : Option ℕ) (x y : List ℕ) (m : ℕ) → ((n : ℕ) → o ≡ Some n → n < m → p ≡ Some n)
+    → m ≤ length x
     → ((n : ℕ) → n ≤ m → take n y ≡ take n x) → (closed_string o x).more + 2 ≤ m → closed_string p y ≡ closed_string o x
 closed_string-step None p x y m h long front le = absurd (omega arith)
 closed_string-step (Some n) p x y m h long front le =
-    ap (λ q. closed_string q y) (h n refl (omega arith)) ∙ ap (λ l. token_of (text_or_bad (unescaped l)) (suc n)) (front n (omega arith))
+    ap (λ q. closed_string q y) (h n refl (omega arith))
+    ∙ ap (λ l. token_of (text_or_bad (unescaped l)) (suc n)) (front n (omega arith))
 
 abbrev strings : List ℕ → Lexeme
 strings bs = closed_string (quote_at bs) bs
@@ -229,7 +244,8 @@ same_place : (p q : TokenPlace) → ◌≡◌ {A = Option TokenPlace} (Some p) (
 same_place p q e = let same : p ≡ q = cc in ap (λ (r : TokenPlace). r.end) same
 
 -- a token ends after its first byte
-end-step : (t : Option Token) (at k : ℕ) (q p : TokenPlace) (xs : List TokenPlace) → slice_get (and_place t q xs) k ≡ Some p → at < q.end
+end-step : (t : Option Token) (at k : ℕ) (q p : TokenPlace) (xs : List TokenPlace)
+    → slice_get (and_place t q xs) k ≡ Some p → at < q.end
     → ((j : ℕ) → slice_get xs j ≡ Some p → at < p.end) → at < p.end
 end-step None at k q p xs got lt h = h k got
 end-step (Some t) at zero q p xs got lt h = let is = same_place q p got in omega arith
@@ -247,31 +263,38 @@ end_after (b ∷ bs) zero at k p got =
 abbrev Same : ℕ → List Token → List Token → Type 0
 Same k x y = take (suc k) x ≡ take (suc k) y
 
-same-step : (t : Option Token) (k : ℕ) (q p : TokenPlace) (xs : List TokenPlace) (x y : List Token) → slice_get (and_place t q xs) k ≡ Some p
+same-step : (t : Option Token) (k : ℕ) (q p : TokenPlace) (xs : List TokenPlace) (x y : List Token)
+    → slice_get (and_place t q xs) k ≡ Some p
     → ((j : ℕ) → slice_get xs j ≡ Some p → Same j x y) → Same k (and_token t x) (and_token t y)
 same-step None k q p xs x y got h = h k got
 same-step (Some t) zero q p xs x y got h = refl
 same-step (Some t) (suc k) q p xs x y got h = ap (λ l. t ∷ l) (h k got)
 
-local-step : (t : Option Token) (at n k : ℕ) (p : TokenPlace) (xs : List TokenPlace) → slice_get (and_place t (place_at at n) xs) k ≡ Some p
+local-step : (t : Option Token) (at n k : ℕ) (p : TokenPlace) (xs : List TokenPlace)
+    → slice_get (and_place t (place_at at n) xs) k ≡ Some p
     → ((j : ℕ) → slice_get xs j ≡ Some p → suc at + n < p.end) → suc at + n ≤ p.end
 local-step None at n k p xs got h = let more : suc at + n < p.end = h k got in omega arith
 local-step (Some t) at n zero p xs got h = let is : at + 1 + n ≡ p.end = same_place (place_at at n) p got in omega arith
 local-step (Some t) at n (suc k) p xs got h = let more : suc at + n < p.end = h k got in omega arith
 
-same_from : (u v w : List ℕ) (n at k : ℕ) (p : TokenPlace) → slice_get (places_after at n (u ++ v)) k ≡ Some p → p.end + 2 ≤ at + length u
+same_from : (u v w : List ℕ) (n at k : ℕ) (p : TokenPlace) → slice_get (places_after at n (u ++ v)) k ≡ Some p
+    → p.end + 2 ≤ at + length u
     → Same k (tokens_after n (u ++ w)) (tokens_after n (u ++ v))
 same_from [] v w n at k p got le = let more = end_after v n at k p got in absurd (omega arith)
 same_from (b ∷ u) v w (suc n) at k p got le = same_from u v w n (suc at) k p got (omega arith)
 same_from (b ∷ u) v w zero at k p got le =
     let m = piece_at b (u ++ v) in
-    let within : suc at + m.more ≤ p.end = local-step m.token at m.more k p (places_after (suc at) m.more (u ++ v)) got (λ j g. end_after (u ++ v) m.more (suc at) j p g) in
+    let within : suc at + m.more ≤ p.end = local-step m.token at m.more k p (places_after (suc at) m.more (u ++ v)) got
+    (λ j g. end_after (u ++ v) m.more (suc at) j p g) in
     let same : piece_at b (u ++ w) ≡ m = piece-local b u v w (omega arith) in
-    subst (λ q. Same k (and_token q.token (tokens_after q.more (u ++ w))) (and_token m.token (tokens_after m.more (u ++ v)))) (sym same)
-    (same-step m.token k (place_at at m.more) p (places_after (suc at) m.more (u ++ v)) (tokens_after m.more (u ++ w)) (tokens_after m.more (u ++ v)) got
+    subst (λ q. Same k
+    (and_token q.token (tokens_after q.more (u ++ w))) (and_token m.token (tokens_after m.more (u ++ v)))) (sym same)
+    (same-step m.token k (place_at at m.more) p
+    (places_after (suc at) m.more (u ++ v)) (tokens_after m.more (u ++ w)) (tokens_after m.more (u ++ v)) got
     (λ j g. same_from u v w m.more (suc at) j p g (omega arith)))
 
 -- texts that agree up to two bytes after a token have the same tokens up to that one
-pub same_tokens : (u v w : List ℕ) (k : ℕ) (p : TokenPlace) → slice_get (places (u ++ v)) k ≡ Some p → p.end + 2 ≤ length u
+pub same_tokens : (u v w : List ℕ) (k : ℕ) (p : TokenPlace) → slice_get (places (u ++ v)) k ≡ Some p
+    → p.end + 2 ≤ length u
     → Same k (tokens (u ++ w)) (tokens (u ++ v))
 same_tokens u v w k p got le = same_from u v w 0 0 k p got (omega arith)

@@ -23,19 +23,23 @@ places_after-drop (suc n) at (b ∷ bs) =
 -- one piece of a text: the place of its token, and those after it
 pub places_step : (left rest : List ℕ) (b k at : ℕ) (t : Option Token)
     → left ≡ b ∷ rest → t ≡ (piece_at b rest).token → k ≡ (piece_at b rest).more → k ≤ length rest
-    → places_after at 0 left ≡ and_place t (place_at at k) (places_after (at + 1 + k) 0 (take (length rest - k) (drop k rest)))
+    → places_after at 0 left
+    ≡ and_place t (place_at at k) (places_after (at + 1 + k) 0 (take (length rest - k) (drop k rest)))
 places_step left rest b k at t e token more bound =
     let same : suc at + k ≡ at + 1 + k = omega arith in
     let after : places_after (suc at) k rest ≡ places_after (at + 1 + k) 0 (take (length rest - k) (drop k rest)) =
     places_after-drop k (suc at) rest
     ∙ (ap (λ n. places_after n 0 (drop k rest)) same
     ∙ ap (places_after (at + 1 + k) 0) (sym (drop-rest k rest bound))) in
-    ap (places_after at 0) e ∙ (ap (λ o. and_place o (place_at at (piece_at b rest).more) (places_after (suc at) (piece_at b rest).more rest)) (sym token)
+    ap (places_after at 0) e
+    ∙ (ap (λ o. and_place o (place_at at (piece_at b rest).more) (places_after (suc at) (piece_at b rest).more rest))
+    (sym token)
     ∙ (ap (λ n. and_place t (place_at at n) (places_after (suc at) n rest)) (sym more)
     ∙ ap (and_place t (place_at at k)) after))
 
 -- each token has its place
-and_lengths : (t : Option Token) (p : TokenPlace) (places : List TokenPlace) (ts : List Token) → length places ≡ length ts → length (and_place t p places) ≡ length (and_token t ts)
+and_lengths : (t : Option Token) (p : TokenPlace) (places : List TokenPlace) (ts : List Token)
+    → length places ≡ length ts → length (and_place t p places) ≡ length (and_token t ts)
 and_lengths None p places ts e = e
 and_lengths (Some t) p places ts e = ap suc e
 
@@ -43,7 +47,8 @@ lengths : (x : List ℕ) (n at : ℕ) → length (places_after at n x) ≡ lengt
 lengths [] n at = refl
 lengths (b ∷ bs) (suc n) at = lengths bs n (suc at)
 lengths (b ∷ bs) zero at =
-    and_lengths (piece_at b bs).token (place_at at (piece_at b bs).more) (places_after (suc at) (piece_at b bs).more bs) (tokens_after (piece_at b bs).more bs)
+    and_lengths (piece_at b bs).token (place_at at (piece_at b bs).more) (places_after (suc at) (piece_at b bs).more bs)
+    (tokens_after (piece_at b bs).more bs)
     (lengths bs (piece_at b bs).more (suc at))
 
 past : (xs : List TokenPlace) (k : ℕ) → slice_get xs k ≡ None → length xs ≤ k
@@ -56,14 +61,18 @@ place-past x k e = let same = lengths x 0 0 in let below = past (places x) k e i
 
 -- ---- what is looked for after a piece
 
-pub white-same : (p : Scanned) (at : TokenPlace) (n m : ℕ) (xs : List TokenPlace) → p ≡ White → m ≡ n → slice_get (and_place (piece_token p) at xs) n ≡ slice_get xs m
-white-same p at n m xs white same = ap (λ q. slice_get (and_place (piece_token q) at xs) n) white ∙ ap (slice_get xs) (sym same)
+pub white-same : (p : Scanned) (at : TokenPlace) (n m : ℕ) (xs : List TokenPlace)
+    → p ≡ White → m ≡ n → slice_get (and_place (piece_token p) at xs) n ≡ slice_get xs m
+white-same p at n m xs white same = ap (λ q. slice_get (and_place (piece_token q) at xs) n) white
+    ∙ ap (slice_get xs) (sym same)
 
-less : (at : TokenPlace) (n m : ℕ) (xs : List TokenPlace) → (n ≡ 0 → ⊥) → m ≡ n - 1 → slice_get (at ∷ xs) n ≡ slice_get xs m
+less : (at : TokenPlace) (n m : ℕ) (xs : List TokenPlace)
+    → (n ≡ 0 → ⊥) → m ≡ n - 1 → slice_get (at ∷ xs) n ≡ slice_get xs m
 less at zero m xs some same = absurd (some refl)
 less at (suc n) m xs some same = let is : n ≡ m = omega arith in ap (slice_get xs) is
 
-pub token-less : (p : Scanned) (at : TokenPlace) (n m : ℕ) (xs : List TokenPlace) → (p ≡ White → ⊥) → (n ≡ 0 → ⊥) → m ≡ n - 1 → slice_get (and_place (piece_token p) at xs) n ≡ slice_get xs m
+pub token-less : (p : Scanned) (at : TokenPlace) (n m : ℕ) (xs : List TokenPlace)
+    → (p ≡ White → ⊥) → (n ≡ 0 → ⊥) → m ≡ n - 1 → slice_get (and_place (piece_token p) at xs) n ≡ slice_get xs m
 token-less White at n m xs token some same = absurd (token refl)
 token-less (Word x) at n m xs token some same = less at n m xs some same
 token-less (PInteger z) at n m xs token some same = less at n m xs some same
@@ -71,7 +80,8 @@ token-less (PText x) at n m xs token some same = less at n m xs some same
 token-less (PSign s) at n m xs token some same = less at n m xs some same
 token-less PBad at n m xs token some same = less at n m xs some same
 
-pub token-here : (p : Scanned) (at : TokenPlace) (n : ℕ) (xs : List TokenPlace) → (p ≡ White → ⊥) → n ≡ 0 → slice_get (and_place (piece_token p) at xs) n ≡ Some at
+pub token-here : (p : Scanned) (at : TokenPlace) (n : ℕ) (xs : List TokenPlace)
+    → (p ≡ White → ⊥) → n ≡ 0 → slice_get (and_place (piece_token p) at xs) n ≡ Some at
 token-here White at n xs token is = absurd (token refl)
 token-here (Word x) at n xs token is = ap (slice_get (at ∷ xs)) is
 token-here (PInteger z) at n xs token is = ap (slice_get (at ∷ xs)) is

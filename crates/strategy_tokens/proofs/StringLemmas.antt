@@ -39,7 +39,8 @@ octal_items a b c byte x y bs e f g = ap (after_octal a) (e ∙ ap (λ l. b ∷ 
 -- ---- a leading run stands for itself
 
 run_from : (b : ℕ) (bs : List ℕ) (backslash : Bool) → (b == 92) ≡ backslash
-    → unescaped bs ≡ after (take (prefix_len is_no_backslash bs) bs) (unescaped (drop (prefix_len is_no_backslash bs) bs))
+    → unescaped bs
+    ≡ after (take (prefix_len is_no_backslash bs) bs) (unescaped (drop (prefix_len is_no_backslash bs) bs))
     → unescaped (b ∷ bs) ≡ after (take (cond (not backslash) (1 + prefix_len is_no_backslash bs) 0) (b ∷ bs))
     (unescaped (drop (cond (not backslash) (1 + prefix_len is_no_backslash bs) 0) (b ∷ bs)))
 run_from b bs true e h = after-nil (unescaped (b ∷ bs))

@@ -19,19 +19,23 @@ arrow = refl
 pub minus : tokens (codes "a-b") ≡ word (codes "a-b") ∷ []
 minus = refl
 
-pub integers : tokens (codes "1-1 x -1 x-1 -0") ≡ Integer (pos 1) ∷ (Integer (negsuc 0) ∷ (word (codes "x") ∷ (Integer (negsuc 0) ∷ (word (codes "x-1") ∷ (Integer (pos 0) ∷ [])))))
+pub integers : tokens (codes "1-1 x -1 x-1 -0") ≡ Integer (pos 1)
+    ∷ (Integer (negsuc 0) ∷ (word (codes "x") ∷ (Integer (negsuc 0) ∷ (word (codes "x-1") ∷ (Integer (pos 0) ∷ [])))))
 integers = refl
 
 pub minus_alone : tokens (codes "--1 -") ≡ Bad ∷ (Integer (negsuc 0) ∷ (Bad ∷ []))
 minus_alone = refl
 
-pub out_of_range : tokens (codes "9223372036854775807 9223372036854775808 -9223372036854775808") ≡ Integer (pos 9223372036854775807) ∷ (Bad ∷ (Integer (negsuc 9223372036854775807) ∷ []))
+pub out_of_range : tokens (codes "9223372036854775807 9223372036854775808 -9223372036854775808")
+    ≡ Integer (pos 9223372036854775807) ∷ (Bad ∷ (Integer (negsuc 9223372036854775807) ∷ []))
 out_of_range = refl
 
-pub choices : tokens (codes "< + <+ =>= = >") ≡ Sign Less ∷ (Sign Plus ∷ (Sign LeftChoice ∷ (Sign FatArrow ∷ (Sign Equals ∷ (Sign Equals ∷ (Sign Greater ∷ []))))))
+pub choices : tokens (codes "< + <+ =>= = >") ≡ Sign Less
+    ∷ (Sign Plus ∷ (Sign LeftChoice ∷ (Sign FatArrow ∷ (Sign Equals ∷ (Sign Equals ∷ (Sign Greater ∷ []))))))
 choices = refl
 
-pub reserved : tokens (codes "id _ _id id_ f'") ≡ Reserved Id ∷ (Wildcard ∷ (word (codes "_id") ∷ (word (codes "id_") ∷ (word (codes "f'") ∷ []))))
+pub reserved : tokens (codes "id _ _id id_ f'")
+    ≡ Reserved Id ∷ (Wildcard ∷ (word (codes "_id") ∷ (word (codes "id_") ∷ (word (codes "f'") ∷ []))))
 reserved = refl
 
 -- each byte that begins no token is one bad token
@@ -49,9 +53,11 @@ pub unclosed_comment : tokens (codes "a /*/ b") ≡ word (codes "a") ∷ (Bad �
 unclosed_comment = refl
 
 -- `"a\"b\n\101"`
-pub strings : tokens (34 ∷ (97 ∷ (92 ∷ (34 ∷ (98 ∷ (92 ∷ (110 ∷ (92 ∷ (49 ∷ (48 ∷ (49 ∷ (34 ∷ [])))))))))))) ≡ string (97 ∷ (34 ∷ (98 ∷ (10 ∷ (65 ∷ []))))) ∷ []
+pub strings : tokens (34 ∷ (97 ∷ (92 ∷ (34 ∷ (98 ∷ (92 ∷ (110 ∷ (92 ∷ (49 ∷ (48 ∷ (49 ∷ (34 ∷ []))))))))))))
+    ≡ string (97 ∷ (34 ∷ (98 ∷ (10 ∷ (65 ∷ []))))) ∷ []
 strings = refl
 
 -- an invalid escape ends at the next quote; an unclosed string extends to the end
-pub bad_strings : tokens (34 ∷ (92 ∷ (113 ∷ (34 ∷ (97 ∷ (34 ∷ (98 ∷ (32 ∷ (99 ∷ []))))))))) ≡ Bad ∷ (word (codes "a") ∷ (Bad ∷ []))
+pub bad_strings : tokens
+    (34 ∷ (92 ∷ (113 ∷ (34 ∷ (97 ∷ (34 ∷ (98 ∷ (32 ∷ (99 ∷ []))))))))) ≡ Bad ∷ (word (codes "a") ∷ (Bad ∷ []))
 bad_strings = refl

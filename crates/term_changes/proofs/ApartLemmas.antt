@@ -53,12 +53,15 @@ heads_below k i (p ∷ ps) h = (h, heads_below k i ps h)
 heads_places : (k i : ℕ) (cs : Changes) → k ≤ i → HeadsFrom k (places_from i cs)
 heads_places k i no_more h = tt
 heads_places k i (and_then c cs) h =
-    heads_append k (below i (places c)) (places_from (i + 1) cs) (heads_below k i (places c) h) (heads_places k (i + 1) cs (omega (arith, h)))
+    heads_append k (below i (places c)) (places_from (i + 1) cs) (heads_below k i (places c) h)
+    (heads_places k (i + 1) cs (omega (arith, h)))
 
 apart_heads : (i : ℕ) (p q : List ℕ) → HeadFrom (i + 1) q → AreApart (i ∷ p) q
 apart_heads i p [] h = absurd h
-apart_heads i p (j ∷ q) h =
-    (λ w. let e = w.1 in let same : i ≡ j = (cc) in omega (arith, same, h), λ w. let e = w.1 in let same : j ≡ i = (cc) in omega (arith, same, h))
+apart_heads i p (j ∷ q) h = (
+  λ w. let e = w.1 in let same : i ≡ j = (cc) in omega (arith, same, h),
+  λ w. let e = w.1 in let same : j ≡ i = (cc) in omega (arith, same, h),
+)
 
 apart_from_heads : (i : ℕ) (p : List ℕ) (qs : Edits) → HeadsFrom (i + 1) qs → ApartFromAll (i ∷ p) qs
 apart_from_heads i p [] h = tt
@@ -70,8 +73,10 @@ from_all_append q (x ∷ xs) ys h g = (h.0, from_all_append q xs ys h.1 g)
 
 join_apart : (i : ℕ) (ps qs : Edits) → AllApart ps → AllApart qs → HeadsFrom (i + 1) qs → AllApart (below i ps ++ qs)
 join_apart i [] qs h g k = g
-join_apart i (p ∷ ps) qs h g k =
-    (from_all_append (i ∷ p.path) (below i ps) qs (from_all_below i p.path ps h.0) (apart_from_heads i p.path qs k), join_apart i ps qs h.1 g k)
+join_apart i (p ∷ ps) qs h g k = (
+  from_all_append (i ∷ p.path) (below i ps) qs (from_all_below i p.path ps h.0) (apart_from_heads i p.path qs k),
+  join_apart i ps qs h.1 g k,
+)
 
 mutual
   places_apart : (c : Change) → AllApart (places c)
@@ -82,11 +87,13 @@ mutual
   all_places_apart : (i : ℕ) (cs : Changes) → AllApart (places_from i cs)
   all_places_apart i no_more = tt
   all_places_apart i (and_then c cs) =
-      join_apart i (places c) (places_from (i + 1) cs) (places_apart c) (all_places_apart (i + 1) cs) (heads_places (i + 1) (i + 1) cs (omega arith))
+      join_apart i (places c) (places_from (i + 1) cs) (places_apart c) (all_places_apart (i + 1) cs)
+      (heads_places (i + 1) (i + 1) cs (omega arith))
 
 prefixed_apart : (ps : Edits) (q : List ℕ) → AllApart ps → AllApart (prefixed q ps)
 prefixed_apart ps [] h = subst AllApart (sym (prefixed_root ps)) h
-prefixed_apart ps (i ∷ q) h = subst AllApart (sym (prefixed_child i q ps)) (all_below i (prefixed q ps) (prefixed_apart ps q h))
+prefixed_apart ps (i ∷ q) h =
+    subst AllApart (sym (prefixed_child i q ps)) (all_below i (prefixed q ps) (prefixed_apart ps q h))
 
 pub places_lie_apart : PlacesLieApart
 places_lie_apart c p = prefixed_apart (places c) p (places_apart c)

@@ -8,7 +8,8 @@ use Rattle.term_changes.proofs.NodeLemmas.{children-with_children, with_children
 use Rattle.term_changes.proofs.PlacesMade.{put_all}
 use Rattle.term_changes.proofs.FollowLemmas.{length-changed}
 
-nth-changed : (cs : Changes) (us : List Tree) (i : ℕ) (v : Tree) → slice_get us i ≡ Some v → slice_get (changed_all cs us) i ≡ Some (changed (nth_change cs i) v)
+nth-changed : (cs : Changes) (us : List Tree) (i : ℕ) (v : Tree) → slice_get us i ≡ Some v
+    → slice_get (changed_all cs us) i ≡ Some (changed (nth_change cs i) v)
 nth-changed no_more us i v h = h
 nth-changed (and_then c cs) [] i v h = absurd (cc)
 nth-changed (and_then c cs) (u ∷ us) zero v h = let same_tree : u ≡ v = cc in ap (λ x. Some (changed c x)) same_tree
@@ -20,15 +21,18 @@ nth-past (and_then c cs) [] i h = h
 nth-past (and_then c cs) (u ∷ us) zero h = absurd (cc)
 nth-past (and_then c cs) (u ∷ us) (suc i) h = nth-past cs us i h
 
-changed-with : (cs : Changes) (us : List Tree) (i : ℕ) (d : Change) (v : Tree) → slice_get us i ≡ Some v → changed_all (with_nth cs i d) us ≡ set (changed_all cs us) i (changed d v)
+changed-with : (cs : Changes) (us : List Tree) (i : ℕ) (d : Change) (v : Tree) → slice_get us i ≡ Some v
+    → changed_all (with_nth cs i d) us ≡ set (changed_all cs us) i (changed d v)
 changed-with no_more [] i d v h = absurd (cc)
 changed-with no_more (u ∷ us) zero d v h = let same_tree : u ≡ v = cc in ap (λ x. changed d x ∷ us) same_tree
 changed-with no_more (u ∷ us) (suc i) d v h = ap (λ l. u ∷ l) (changed-with no_more us i d v h)
 changed-with (and_then c cs) [] i d v h = absurd (cc)
-changed-with (and_then c cs) (u ∷ us) zero d v h = let same_tree : u ≡ v = cc in ap (λ x. changed d x ∷ changed_all cs us) same_tree
+changed-with (and_then c cs) (u ∷ us) zero d v h = let same_tree : u ≡ v = cc in
+    ap (λ x. changed d x ∷ changed_all cs us) same_tree
 changed-with (and_then c cs) (u ∷ us) (suc i) d v h = ap (λ l. changed c u ∷ l) (changed-with cs us i d v h)
 
-changed-past : (cs : Changes) (us : List Tree) (i : ℕ) (d : Change) → slice_get us i ≡ None → changed_all (with_nth cs i d) us ≡ changed_all cs us
+changed-past : (cs : Changes) (us : List Tree) (i : ℕ) (d : Change)
+    → slice_get us i ≡ None → changed_all (with_nth cs i d) us ≡ changed_all cs us
 changed-past no_more [] zero d h = refl
 changed-past no_more [] (suc i) d h = refl
 changed-past no_more (u ∷ us) zero d h = absurd (cc)
@@ -42,7 +46,8 @@ set-past : (t u : Tree) (i : ℕ) (p : List ℕ) → slice_get (children t) i �
 set-past t u i p h = rw h refl
 
 -- an edit in child i, where d is the edited change of that child
-inside_edit : (cs : Changes) (t u : Tree) (i : ℕ) (p : List ℕ) (d : Change) → ((v : Tree) → changed d v ≡ set_at (changed (nth_change cs i) v) p u)
+inside_edit : (cs : Changes) (t u : Tree) (i : ℕ) (p : List ℕ) (d : Change)
+    → ((v : Tree) → changed d v ≡ set_at (changed (nth_change cs i) v) p u)
     → changed (inside (with_nth cs i d)) t ≡ set_at (changed (inside cs) t) (i ∷ p) u
 inside_edit cs t u i p d h =
     let us = children t in
@@ -73,4 +78,5 @@ edit_comes_to (replaced v) (i ∷ p) u t = refl
 
 pub edits_come_to : EditsComeTo
 edits_come_to c [] t = refl
-edits_come_to c (e ∷ es) t = edits_come_to (and_edit c e.path e.new) es t ∙ ap (put_all es) (edit_comes_to c e.path e.new t)
+edits_come_to c (e ∷ es) t = edits_come_to (and_edit c e.path e.new) es t
+    ∙ ap (put_all es) (edit_comes_to c e.path e.new t)

@@ -59,8 +59,10 @@ flipped_back_fits (e ∷ es) s h =
 pub flipped_forward_fits : FlippedForwardFits
 flipped_forward_fits [] s h = tt
 flipped_forward_fits (e ∷ es) s h =
-    let next = put e s in
-    (subst (HasPlace (found e s)) (sym (store_from_before es next)) (place_stays e s h.0), flipped_forward_fits es next h.1)
+    let next = put e s in (
+      subst (HasPlace (found e s)) (sym (store_from_before es next)) (place_stays e s h.0),
+      flipped_forward_fits es next h.1,
+    )
 
 -- ---- concatenated logs
 
@@ -84,4 +86,5 @@ pushed_fits (d ∷ ds) e s h place =
 pub rolled_back_fits : RolledBackFits
 rolled_back_fits zero es s h = tt
 rolled_back_fits (suc m) [] s h = tt
-rolled_back_fits (suc m) (e ∷ es) s h = (subst (HasPlace e) (sym (rolled_back_leads_back m es s)) h.0, rolled_back_fits m es s h.1)
+rolled_back_fits (suc m) (e ∷ es) s h =
+    (subst (HasPlace e) (sym (rolled_back_leads_back m es s)) h.0, rolled_back_fits m es s h.1)

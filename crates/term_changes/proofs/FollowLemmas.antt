@@ -95,7 +95,8 @@ pub trees_of_children : TreesOfChildren
 trees_of_children (unchanged t) = trees_same (children t)
 trees_of_children (altered a) =
     trees_stand (children a.before) a.changes
-    ∙ sym (children-with_children a.before (changed_all a.changes (children a.before)) (length-changed (children a.before) a.changes))
+    ∙ sym (children-with_children a.before (changed_all a.changes (children a.before))
+    (length-changed (children a.before) a.changes))
 trees_of_children (fresh t) = trees_fresh (children t)
 
 pub followers_are_the_change : FollowersAreTheChange

@@ -7,7 +7,8 @@ no_length : (us : List Tree) → length us ≡ 0 → us ≡ []
 no_length [] h = refl
 no_length (u ∷ us) h = absurd (omega (arith, h))
 
-pub children-with_children : (t : Tree) (us : List Tree) → length us ≡ length (children t) → children (with_children t us) ≡ us
+pub children-with_children : (t : Tree) (us : List Tree) → length us ≡ length (children t)
+    → children (with_children t us) ≡ us
 children-with_children (integer z notes) us h = sym (no_length us h)
 children-with_children (branch head kids notes) us h = to_list-of_list us
 
@@ -15,7 +16,8 @@ pub annotations-with_children : (t : Tree) (us : List Tree) → annotations (wit
 annotations-with_children (integer z notes) us = refl
 annotations-with_children (branch head kids notes) us = refl
 
-pub with_children-with_children : (t : Tree) (us vs : List Tree) → with_children (with_children t us) vs ≡ with_children t vs
+pub with_children-with_children : (t : Tree) (us vs : List Tree)
+    → with_children (with_children t us) vs ≡ with_children t vs
 with_children-with_children (integer z notes) us vs = refl
 with_children-with_children (branch head kids notes) us vs = refl
 

@@ -19,21 +19,26 @@ found-append : (e f : Edits) (t : Tree) → all_found t (e ++ f) ≡ all_found t
 found-append [] f t = refl
 found-append (x ∷ e) f t = ap (λ l. found_at t x ∷ l) (found-append e f t)
 
-found-below : (e : Edits) (t kid : Tree) (i : ℕ) → slice_get (children t) i ≡ Some kid → all_found t (below i e) ≡ below i (all_found kid e)
+found-below : (e : Edits) (t kid : Tree) (i : ℕ) → slice_get (children t) i ≡ Some kid
+    → all_found t (below i e) ≡ below i (all_found kid e)
 found-below [] t kid i h = refl
 found-below (x ∷ e) t kid i h =
-    λ j. record { path = i ∷ x.path; new = unwrap_or (option_and_then (λ k. at k x.path) (h j)) x.new } ∷ found-below e t kid i h j
+    λ j. record { path = i ∷ x.path; new = unwrap_or (option_and_then (λ k. at k x.path) (h j)) x.new }
+    ∷ found-below e t kid i h j
 
 found-no_child : (e : Edits) (t : Tree) (i : ℕ) → slice_get (children t) i ≡ None → all_found t (below i e) ≡ below i e
 found-no_child [] t i h = refl
 found-no_child (x ∷ e) t i h =
-    λ j. record { path = i ∷ x.path; new = unwrap_or (option_and_then (λ k. at k x.path) (h j)) x.new } ∷ found-no_child e t i h j
+    λ j. record { path = i ∷ x.path; new = unwrap_or (option_and_then (λ k. at k x.path) (h j)) x.new }
+    ∷ found-no_child e t i h j
 
-found-past : (cs : Changes) (t : Tree) (i : ℕ) → length (children t) ≤ i → all_found t (places_from i cs) ≡ places_from i cs
+found-past : (cs : Changes) (t : Tree) (i : ℕ)
+    → length (children t) ≤ i → all_found t (places_from i cs) ≡ places_from i cs
 found-past no_more t i h = refl
 found-past (and_then c cs) t i h =
     found-append (below i (places c)) (places_from (i + 1) cs) t
-    ∙ (λ j. found-no_child (places c) t i (slice_get_past (children t) i h) j ++ found-past cs t (i + 1) (omega (arith, h)) j)
+    ∙ (λ j.
+    found-no_child (places c) t i (slice_get_past (children t) i h) j ++ found-past cs t (i + 1) (omega (arith, h)) j)
 
 mutual
   found_places : (c : Change) (t : Tree) → all_found t (places c) ≡ places (taken c t)
@@ -41,16 +46,20 @@ mutual
   found_places (inside cs) t = found_from cs t [] (children t) refl
   found_places (replaced u) t = refl
 
-  found_from : (cs : Changes) (t : Tree) (us vs : List Tree) → children t ≡ us ++ vs → all_found t (places_from (length us) cs) ≡ places_from (length us) (taken_all cs vs)
+  found_from : (cs : Changes) (t : Tree) (us vs : List Tree)
+      → children t ≡ us ++ vs → all_found t (places_from (length us) cs) ≡ places_from (length us) (taken_all cs vs)
   found_from no_more t us vs e = refl
-  found_from (and_then c cs) t us [] e = found-past (and_then c cs) t (length us) (omega (arith, ap length e, length-append us []))
+  found_from (and_then c cs) t us [] e =
+      found-past (and_then c cs) t (length us) (omega (arith, ap length e, length-append us []))
   found_from (and_then c cs) t us (v ∷ vs) e =
       let i = length us in
       let index : i + 1 ≡ length (us ++ v ∷ []) = sym (length-append us (v ∷ [])) in
       let split : children t ≡ (us ++ v ∷ []) ++ vs = e ∙ sym (append_assoc us (v ∷ []) vs) in
       found-append (below i (places c)) (places_from (i + 1) cs) t
-      ∙ (λ j. (found-below (places c) t v i (ap (λ l. slice_get l i) e ∙ get_seam us vs v) ∙ ap (below i) (found_places c v)) j
-      ++ (ap (λ k. all_found t (places_from k cs)) index ∙ found_from cs t (us ++ v ∷ []) vs split ∙ ap (λ k. places_from k (taken_all cs vs)) (sym index)) j)
+      ∙ (λ j.
+      (found-below (places c) t v i (ap (λ l. slice_get l i) e ∙ get_seam us vs v) ∙ ap (below i) (found_places c v)) j
+      ++ (ap (λ k. all_found t (places_from k cs)) index ∙ found_from cs t (us ++ v ∷ []) vs split
+      ∙ ap (λ k. places_from k (taken_all cs vs)) (sym index)) j)
 
 pub taken_is_there : TakenIsThere
 taken_is_there c t = sym (found_places c t)
@@ -63,7 +72,8 @@ left_apart (x ∷ e) q t h = left_apart e q (set_at t x.path x.new) h.1 ∙ apar
 
 pub left_apart_back : (e : Edits) (q : List ℕ) (t : Tree) → ApartFromAll q e → at (edited_back t e) q ≡ at t q
 left_apart_back [] q t h = refl
-left_apart_back (x ∷ e) q t h = apart_is_left (edited_back t e) x.new x.path q (h.0.1, h.0.0) ∙ left_apart_back e q t h.1
+left_apart_back (x ∷ e) q t h = apart_is_left (edited_back t e) x.new x.path q (h.0.1, h.0.0)
+    ∙ left_apart_back e q t h.1
 
 -- what is set first can be set last
 set_last : (e : Edits) (q : List ℕ) (t u : Tree) → ApartFromAll q e → edited (set_at t q u) e ≡ set_at (edited t e) q u
@@ -96,7 +106,8 @@ found_left (x ∷ e) q t u h =
 
 pub forward_of : (e : Edits) (t : Tree) → AllApart e → found_forward t e ≡ all_found t e
 forward_of [] t h = refl
-forward_of (x ∷ e) t h = ap (λ l. found_at t x ∷ l) (forward_of e (set_at t x.path x.new) h.1 ∙ found_left e x.path t x.new h.0)
+forward_of (x ∷ e) t h =
+    ap (λ l. found_at t x ∷ l) (forward_of e (set_at t x.path x.new) h.1 ∙ found_left e x.path t x.new h.0)
 
 pub back_of : (e : Edits) (t : Tree) → AllApart e → found_back t e ≡ all_found t e
 back_of [] t h = refl

@@ -12,15 +12,19 @@ use Rattle.term_changes.specs.Exchange.{taken, changed_in, taken_in}
 module _ (c : Change) (t kid : Tree) (i : ℕ) (rest : List ℕ) (is : slice_get (children t) i ≡ Some kid) where
   in_child : with_child t i (changed_in c kid rest) ≡ changed_in c t (i ∷ rest)
   in_child =
-      (elim (at kid rest) as (λ o. with_child t i (option_map_or (λ u. set_at kid rest (changed c u)) o kid) ≡ option_map_or (λ u. set_at t (i ∷ rest) (changed c u)) o t) [
+      (elim (at kid rest) as (λ o. with_child t i (option_map_or (λ u. set_at kid rest (changed c u)) o kid)
+      ≡ option_map_or (λ u. set_at t (i ∷ rest) (changed c u)) o t) [
         | None ↦ with_child-same t i kid is
         | Some u ↦ sym (set_at-child t kid (changed c u) i rest is)
       ])
       ∙ ap (λ o. option_map_or (λ u. set_at t (i ∷ rest) (changed c u)) o t) (sym (at-child t kid i rest is))
 
-  pub below_tree : (new : Tree) (us : List Tree) (p : List ℕ) → p ≡ i ∷ rest → us ≡ children t → new ≡ changed_in c kid rest
+  pub below_tree : (new : Tree) (us : List Tree) (p : List ℕ) → p ≡ i ∷ rest → us ≡ children t
+      → new ≡ changed_in c kid rest
       → with_children t (refill (length (children t)) (children t) (set us i new)) ≡ changed_in c t p
-  below_tree new us p e lent h = written t new us i lent ∙ ap (with_child t i) h ∙ in_child ∙ ap (changed_in c t) (sym e)
+  below_tree new us p e lent h = written t new us i lent ∙ ap (with_child t i) h
+      ∙ in_child ∙ ap (changed_in c t) (sym e)
 
   pub below_patch : (d : Change) (p : List ℕ) → p ≡ i ∷ rest → d ≡ taken_in c kid rest → d ≡ taken_in c t p
-  below_patch d p e h = h ∙ ap (λ o. option_map_or (taken c) o c) (sym (at-child t kid i rest is)) ∙ ap (taken_in c t) (sym e)
+  below_patch d p e h = h ∙ ap (λ o. option_map_or (taken c) o c) (sym (at-child t kid i rest is))
+      ∙ ap (taken_in c t) (sym e)

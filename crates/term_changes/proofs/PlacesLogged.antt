@@ -5,7 +5,8 @@ use Rattle.term_changes.proofs.EntryLemmas.{before-append, pushed_fits, store_fr
 use Rattle.term_changes.specs.Putting.{AllLeadBack, AllFit}
 
 pub all_lead_back : AllLeadBack
-all_lead_back log es s = before-append log (flipped_forward es s) (after es s) ∙ ap (before log) (store_from_before es s)
+all_lead_back log es s = before-append log (flipped_forward es s) (after es s)
+    ∙ ap (before log) (store_from_before es s)
 
 append_none : (log : List Entry) → log ++ [] ≡ log
 append_none [] = refl

@@ -19,7 +19,8 @@ put_append [] qs t = refl
 put_append (p ∷ ps) qs t = put_append ps qs (set_at t p.path p.new)
 
 -- places below one child
-pub put_below : (ps : Edits) (t kid : Tree) (i : ℕ) → slice_get (children t) i ≡ Some kid → put_all (below i ps) t ≡ with_child t i (put_all ps kid)
+pub put_below : (ps : Edits) (t kid : Tree) (i : ℕ) → slice_get (children t) i ≡ Some kid
+    → put_all (below i ps) t ≡ with_child t i (put_all ps kid)
 put_below [] t kid i h = sym (with_child-same t i kid h)
 put_below (p ∷ ps) t kid i h =
     let next = set_at kid p.path p.new in
@@ -58,7 +59,8 @@ mutual
   put_places (inside cs) t = put_from cs t [] (children t) refl
   put_places (replaced u) t = refl
 
-  put_from : (cs : Changes) (t : Tree) (us vs : List Tree) → children t ≡ us ++ vs → put_all (places_from (length us) cs) t ≡ with_children t (us ++ changed_all cs vs)
+  put_from : (cs : Changes) (t : Tree) (us vs : List Tree)
+      → children t ≡ us ++ vs → put_all (places_from (length us) cs) t ≡ with_children t (us ++ changed_all cs vs)
   put_from no_more t us vs e = sym (ap (with_children t) (sym e) ∙ same_children t)
   put_from (and_then c cs) t us [] e =
       put_past (and_then c cs) t (length us) (omega (arith, ap length e, length-append us []))
@@ -67,12 +69,16 @@ mutual
       let i = length us in
       let w = changed c v in
       let next = with_child t i w in
-      let kids : with_children t (us ++ w ∷ vs) ≡ next = ap (with_children t) (sym (ap (λ l. slice_set l i w) e ∙ set_seam us vs v w)) in
-      let count : length (us ++ w ∷ vs) ≡ length (children t) = omega (arith, ap length e, length-append us (w ∷ vs), length-append us (v ∷ vs)) in
-      let split : children next ≡ (us ++ w ∷ []) ++ vs = ap children (sym kids) ∙ children-with_children t (us ++ w ∷ vs) count ∙ sym (append_assoc us (w ∷ []) vs) in
+      let kids : with_children t (us ++ w ∷ vs) ≡ next =
+      ap (with_children t) (sym (ap (λ l. slice_set l i w) e ∙ set_seam us vs v w)) in
+      let count : length (us ++ w ∷ vs) ≡ length (children t) =
+      omega (arith, ap length e, length-append us (w ∷ vs), length-append us (v ∷ vs)) in
+      let split : children next ≡ (us ++ w ∷ []) ++ vs = ap children (sym kids)
+      ∙ children-with_children t (us ++ w ∷ vs) count ∙ sym (append_assoc us (w ∷ []) vs) in
       let index : i + 1 ≡ length (us ++ w ∷ []) = sym (length-append us (w ∷ [])) in
       put_append (below i (places c)) (places_from (i + 1) cs) t
-      ∙ ap (put_all (places_from (i + 1) cs)) (put_below (places c) t v i (ap (λ l. slice_get l i) e ∙ get_seam us vs v) ∙ ap (with_child t i) (put_places c v))
+      ∙ ap (put_all (places_from (i + 1) cs))
+      (put_below (places c) t v i (ap (λ l. slice_get l i) e ∙ get_seam us vs v) ∙ ap (with_child t i) (put_places c v))
       ∙ ap (λ k. put_all (places_from k cs) next) index
       ∙ put_from cs next (us ++ w ∷ []) vs split
       ∙ with_children-with_children t (slice_set (children t) i w) ((us ++ w ∷ []) ++ changed_all cs vs)

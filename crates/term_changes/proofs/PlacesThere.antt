@@ -19,7 +19,8 @@ there_append : (ps qs : Edits) (t : Tree) → AllThere ps t → AllThere qs (put
 there_append [] qs t h g = g
 there_append (p ∷ ps) qs t h g = (h.0, there_append ps qs (set_at t p.path p.new) h.1 g)
 
-there_below : (ps : Edits) (t kid : Tree) (i : ℕ) → slice_get (children t) i ≡ Some kid → AllThere ps kid → AllThere (below i ps) t
+there_below : (ps : Edits) (t kid : Tree) (i : ℕ) → slice_get (children t) i ≡ Some kid → AllThere ps kid
+    → AllThere (below i ps) t
 there_below [] t kid i e h = tt
 there_below (p ∷ ps) t kid i e h =
     let next = set_at kid p.path p.new in (
@@ -34,7 +35,8 @@ mutual
   all_there (inside cs) t h = there_from cs t [] (children t) refl h
   all_there (replaced u) t h = (refl, tt)
 
-  there_from : (cs : Changes) (t : Tree) (us vs : List Tree) → children t ≡ us ++ vs → HaveAllPlaces vs cs → AllThere (places_from (length us) cs) t
+  there_from : (cs : Changes) (t : Tree) (us vs : List Tree) → children t ≡ us ++ vs → HaveAllPlaces vs cs
+      → AllThere (places_from (length us) cs) t
   there_from no_more t us vs e h = tt
   there_from (and_then c cs) t us [] e h = absurd h
   there_from (and_then c cs) t us (v ∷ vs) e h =
@@ -42,11 +44,15 @@ mutual
       let w = changed c v in
       let next = with_child t i w in
       let kid = ap (λ l. slice_get l i) e ∙ get_seam us vs v in
-      let kids : with_children t (us ++ w ∷ vs) ≡ next = ap (with_children t) (sym (ap (λ l. slice_set l i w) e ∙ set_seam us vs v w)) in
-      let count : length (us ++ w ∷ vs) ≡ length (children t) = omega (arith, ap length e, length-append us (w ∷ vs), length-append us (v ∷ vs)) in
-      let split : children next ≡ (us ++ w ∷ []) ++ vs = ap children (sym kids) ∙ children-with_children t (us ++ w ∷ vs) count ∙ sym (append_assoc us (w ∷ []) vs) in
+      let kids : with_children t (us ++ w ∷ vs) ≡ next =
+      ap (with_children t) (sym (ap (λ l. slice_set l i w) e ∙ set_seam us vs v w)) in
+      let count : length (us ++ w ∷ vs) ≡ length (children t) =
+      omega (arith, ap length e, length-append us (w ∷ vs), length-append us (v ∷ vs)) in
+      let split : children next ≡ (us ++ w ∷ []) ++ vs = ap children (sym kids)
+      ∙ children-with_children t (us ++ w ∷ vs) count ∙ sym (append_assoc us (w ∷ []) vs) in
       let index : i + 1 ≡ length (us ++ w ∷ []) = sym (length-append us (w ∷ [])) in
-      let made : put_all (below i (places c)) t ≡ next = put_below (places c) t v i kid ∙ ap (with_child t i) (put_places c v) in
+      let made : put_all (below i (places c)) t ≡ next = put_below (places c) t v i kid
+      ∙ ap (with_child t i) (put_places c v) in
       there_append (below i (places c)) (places_from (i + 1) cs) t
       (there_below (places c) t v i kid (all_there c v h.0))
       (subst (λ x. AllThere (places_from (i + 1) cs) x) (sym made)

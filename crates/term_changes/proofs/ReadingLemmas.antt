@@ -31,10 +31,15 @@ module _ (marks rest : List PlaceMark) (x : PlaceMark) (is : marks ≡ rest ++ x
       pub enough_kids : x.kids ≤ length (read (reverse rest) (reverse terms))
       enough_kids =
           let reversed = length-reverse terms in
-          omega (arith, whole_first.0.0, length-read (reverse rest) (reverse terms) (subst (AreWhole (reverse rest)) (sym reversed) whole_kids))
+          omega (
+            arith,
+            whole_first.0.0,
+            length-read (reverse rest) (reverse terms) (subst (AreWhole (reverse rest)) (sym reversed) whole_kids),
+          )
 
       pub node_read : read (reverse marks) (reverse terms)
-          ≡ (x.skipped, inside (items_changes (take x.kids (read (reverse rest) (reverse terms))))) ∷ drop x.kids (read (reverse rest) (reverse terms))
+          ≡ (x.skipped, inside (items_changes (take x.kids (read (reverse rest) (reverse terms)))))
+          ∷ drop x.kids (read (reverse rest) (reverse terms))
       node_read =
           let others = read (reverse rest) (reverse terms) in
           ap (λ l. read l (reverse terms)) last_first
@@ -48,9 +53,11 @@ module _ (marks rest : List PlaceMark) (x : PlaceMark) (is : marks ≡ rest ++ x
 
       module _ (others : List Tree) (t : Tree) (are : terms ≡ others ++ t ∷ []) where
         pub whole_others : AreWhole (reverse rest) (length others)
-        whole_others = (whole_first.0.1, omega (arith, whole_first.1, ap is_leaf e, ap length are, length-append others (t ∷ [])))
+        whole_others =
+            (whole_first.0.1, omega (arith, whole_first.1, ap is_leaf e, ap length are, length-append others (t ∷ [])))
 
-        pub term_read : read (reverse marks) (reverse terms) ≡ (x.skipped, replaced t) ∷ read (reverse rest) (reverse others)
+        pub term_read : read (reverse marks) (reverse terms)
+            ≡ (x.skipped, replaced t) ∷ read (reverse rest) (reverse others)
         term_read =
             ap (λ l. read l (reverse terms)) last_first
             ∙ ap (λ k. read_mark x.skipped k (read (reverse rest)) (reverse terms)) e

@@ -18,7 +18,8 @@ suits_tree u (unchanged t) h = sym h
 suits_tree u (altered a) h = ap (λ v. changed (inside a.changes) v) (sym h)
 suits_tree u (fresh t) h = refl
 
-pub changed-suit : (us : List Tree) (ps : List Standing) → SuitAll us ps → changed_all (standing_changes ps) us ≡ map standing_tree ps
+pub changed-suit : (us : List Tree) (ps : List Standing) → SuitAll us ps
+    → changed_all (standing_changes ps) us ≡ map standing_tree ps
 changed-suit [] [] h = refl
 changed-suit [] (p ∷ ps) h = absurd h
 changed-suit (u ∷ us) [] h = absurd h
@@ -46,29 +47,35 @@ children-after t ps h =
     ap (λ us. children (with_children t us)) (changed-suit (children t) ps h)
     ∙ children-with_children t (map standing_tree ps) (length-map_tree ps ∙ length-suit (children t) ps h)
 
-pub altered_children : (t : Tree) (ps : List Standing) (x : Altered) → record { before = t; changes = standing_changes ps } ≡ x → SuitAll (children t) ps
+pub altered_children : (t : Tree) (ps : List Standing) (x : Altered)
+    → record { before = t; changes = standing_changes ps } ≡ x → SuitAll (children t) ps
     → children (after x) ≡ map standing_tree ps
 altered_children t ps x e h = ap (λ a. children (after a)) (sym e) ∙ children-after t ps h
 
-pub altered_count : (t : Tree) (ps : List Standing) (x : Altered) → record { before = t; changes = standing_changes ps } ≡ x → SuitAll (children t) ps
+pub altered_count : (t : Tree) (ps : List Standing) (x : Altered)
+    → record { before = t; changes = standing_changes ps } ≡ x → SuitAll (children t) ps
     → length ps ≡ length (children (after x))
 altered_count t ps x e h = sym (ap length (altered_children t ps x e h) ∙ length-map_tree ps)
 
-get_map : (ps : List Standing) (i : ℕ) (p : Standing) → i < length ps → p ≡ get_or ps i p → slice_get (map standing_tree ps) i ≡ Some (standing_tree p)
+get_map : (ps : List Standing) (i : ℕ) (p : Standing) → i < length ps → p ≡ get_or ps i p
+    → slice_get (map standing_tree ps) i ≡ Some (standing_tree p)
 get_map [] i p h e = absurd (omega (arith, h))
 get_map (q ∷ ps) zero p h e = ap (λ x. Some (standing_tree x)) (sym e)
 get_map (q ∷ ps) (suc i) p h e = get_map ps i p (omega (arith, h)) e
 
-pub altered_child : (t : Tree) (ps : List Standing) (x : Altered) (i : ℕ) (p : Standing) → record { before = t; changes = standing_changes ps } ≡ x → SuitAll (children t) ps
+pub altered_child : (t : Tree) (ps : List Standing) (x : Altered) (i : ℕ) (p : Standing)
+    → record { before = t; changes = standing_changes ps } ≡ x → SuitAll (children t) ps
     → i < length ps → p ≡ get_or ps i p → slice_get (children (after x)) i ≡ Some (standing_tree p)
 altered_child t ps x i p e h l g = ap (λ us. slice_get us i) (altered_children t ps x e h) ∙ get_map ps i p l g
 
-pub altered_past : (t : Tree) (ps : List Standing) (x : Altered) (i : ℕ) → record { before = t; changes = standing_changes ps } ≡ x → SuitAll (children t) ps
+pub altered_past : (t : Tree) (ps : List Standing) (x : Altered) (i : ℕ)
+    → record { before = t; changes = standing_changes ps } ≡ x → SuitAll (children t) ps
     → length ps ≤ i → slice_get (children (after x)) i ≡ None
 altered_past t ps x i e h l = slice_get_past (children (after x)) i (omega (arith, l, altered_count t ps x e h))
 
 -- the tree of a node over new standings of its children
-pub tree-with_standing : (s : Standing) (ps : List Standing) → CanHold s ps → standing_tree (with_standing s ps) ≡ with_children (standing_tree s) (map standing_tree ps)
+pub tree-with_standing : (s : Standing) (ps : List Standing) → CanHold s ps
+    → standing_tree (with_standing s ps) ≡ with_children (standing_tree s) (map standing_tree ps)
 tree-with_standing (unchanged t) ps h = ap (with_children t) (changed-suit (children t) ps h)
 tree-with_standing (altered a) ps h =
     ap (with_children a.before) (changed-suit (children a.before) ps h)

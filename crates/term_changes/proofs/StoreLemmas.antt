@@ -22,35 +22,41 @@ content_same [] i t h = refl
 content_same (x ∷ ss) zero t h = ap (λ c. (x.0, c) ∷ ss) (sym h)
 content_same (x ∷ ss) (suc i) t h = ap (λ l. x ∷ l) (content_same ss i t h)
 
-pub content_put : (ss : Slots Tree) (i : ℕ) (t u : Tree) → content ss i ≡ Some t → content (with_content ss i (Some u)) i ≡ Some u
+pub content_put : (ss : Slots Tree) (i : ℕ) (t u : Tree) → content ss i ≡ Some t
+    → content (with_content ss i (Some u)) i ≡ Some u
 content_put [] i t u h = absurd (cc)
 content_put (x ∷ ss) zero t u h = refl
 content_put (x ∷ ss) (suc i) t u h = content_put ss i t u h
 
-pub content_twice : (ss : Slots Tree) (i : ℕ) (c d : Option Tree) → with_content (with_content ss i c) i d ≡ with_content ss i d
+pub content_twice : (ss : Slots Tree) (i : ℕ) (c d : Option Tree)
+    → with_content (with_content ss i c) i d ≡ with_content ss i d
 content_twice [] i c d = refl
 content_twice (x ∷ ss) zero c d = refl
 content_twice (x ∷ ss) (suc i) c d = ap (λ l. x ∷ l) (content_twice ss i c d)
 
 -- ---- places
 
-put_places_at : (ps : Edits) (t u : Tree) (slot : ℕ) (p : List ℕ) (s : Store) → content s.trees slot ≡ Some t → at t p ≡ Some u
+put_places_at : (ps : Edits) (t u : Tree) (slot : ℕ) (p : List ℕ) (s : Store) → content s.trees slot ≡ Some t
+    → at t p ≡ Some u
     → after (entries_at slot (prefixed p ps)) s ≡ put (slot_tree slot (Some (set_at t p (put_all ps u)))) s
 put_places_at [] t u slot p s h k =
     let there : set_at t p u ≡ t = set_at-changed t u p ∙ changed_at-same (λ _. u) t u p k refl in
-    sym ((λ i. record s { trees = with_content s.trees slot (Some (there i)) }) ∙ (λ i. record s { trees = content_same s.trees slot t h i }))
+    sym ((λ i. record s { trees = with_content s.trees slot (Some (there i)) })
+    ∙ (λ i. record s { trees = content_same s.trees slot t h i }))
 put_places_at (q ∷ ps) t u slot p s h k =
     let v = set_at u q.path q.new in
     let next = set_at t p v in
     let s1 = put (slot_tree slot (Some next)) s in
-    let once : put (subterm slot (p ++ q.path) q.new) s ≡ s1 = subterm_put s slot (p ++ q.path) t q.new h ∙ ap (λ x. put (slot_tree slot (Some x)) s) (set_after t u q.new p q.path k) in
+    let once : put (subterm slot (p ++ q.path) q.new) s ≡ s1 = subterm_put s slot (p ++ q.path) t q.new h
+    ∙ ap (λ x. put (slot_tree slot (Some x)) s) (set_after t u q.new p q.path k) in
     ap (after (entries_at slot (prefixed p ps))) once
     ∙ put_places_at ps next v slot p s1 (content_put s.trees slot t next h) (set_is_there t v u p k)
     ∙ ap (λ x. put (slot_tree slot (Some x)) s1) (last_set_stays t v (put_all ps v) p)
     ∙ (λ i. record s { trees = content_twice s.trees slot (Some next) (Some (set_at t p (put_all ps v))) i })
 
 -- the slot's tree, given that it has that subterm
-whole : (o : Option Tree) (p : List ℕ) (u : Tree) → option_and_then (λ t. at t p) o ≡ Some u → (t : Tree) × (o ≡ Some t) × (at t p ≡ Some u)
+whole : (o : Option Tree) (p : List ℕ) (u : Tree) → option_and_then (λ t. at t p) o ≡ Some u
+    → (t : Tree) × (o ≡ Some t) × (at t p ≡ Some u)
 whole None p u h = absurd (cc)
 whole (Some t) p u h = (t, refl, h)
 
@@ -63,16 +69,19 @@ places_put_the_change c u slot p s h =
 
 -- ---- the places exist
 
-fit_places_at : (ps : Edits) (t u : Tree) (slot : ℕ) (p : List ℕ) (s : Store) → content s.trees slot ≡ Some t → at t p ≡ Some u
+fit_places_at : (ps : Edits) (t u : Tree) (slot : ℕ) (p : List ℕ) (s : Store) → content s.trees slot ≡ Some t
+    → at t p ≡ Some u
     → AllThere ps u → FitsForward (entries_at slot (prefixed p ps)) s
 fit_places_at [] t u slot p s h k g = tt
 fit_places_at (q ∷ ps) t u slot p s h k g =
     let v = set_at u q.path q.new in
     let next = set_at t p v in
     let s1 = put (slot_tree slot (Some next)) s in
-    let once : put (subterm slot (p ++ q.path) q.new) s ≡ s1 = subterm_put s slot (p ++ q.path) t q.new h ∙ ap (λ x. put (slot_tree slot (Some x)) s) (set_after t u q.new p q.path k) in
+    let once : put (subterm slot (p ++ q.path) q.new) s ≡ s1 = subterm_put s slot (p ++ q.path) t q.new h
+    ∙ ap (λ x. put (slot_tree slot (Some x)) s) (set_after t u q.new p q.path k) in
     let here : subterm_in s.trees slot (p ++ q.path) ≡ at u q.path =
-    ap (option_and_then (λ x. at x (p ++ q.path))) h ∙ at-append t p q.path ∙ ap (option_and_then (λ x. at x q.path)) k in (
+    ap (option_and_then (λ x. at x (p ++ q.path))) h ∙ at-append t p q.path
+    ∙ ap (option_and_then (λ x. at x q.path)) k in (
       subst (λ o. IsSome o) (sym here) g.0,
       subst (λ x. FitsForward (entries_at slot (prefixed p ps)) x) (sym once)
           (fit_places_at ps next v slot p s1 (content_put s.trees slot t next h) (set_is_there t v u p k) g.1),

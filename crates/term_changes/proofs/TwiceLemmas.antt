@@ -19,7 +19,8 @@ mutual
   tree_back : (c : Change) (t : Tree) → changed (taken c t) (changed c t) ≡ t
   tree_back same t = refl
   tree_back (inside cs) t =
-      with_children-with_children t (changed_all cs (children t)) (changed_all (taken_all cs (children t)) (children (changed (inside cs) t)))
+      with_children-with_children t (changed_all cs (children t))
+      (changed_all (taken_all cs (children t)) (children (changed (inside cs) t)))
       ∙ ap (λ us. with_children t (changed_all (taken_all cs (children t)) us)) (kids_changed cs t)
       ∙ ap (with_children t) (trees_back cs (children t))
       ∙ same_children t
@@ -56,7 +57,8 @@ mutual
   places_stay (inside cs) t h = subst_all cs t (all_places_stay cs (children t) h)
   places_stay (replaced u) t h = tt
 
-  all_places_stay : (cs : Changes) (us : List Tree) → HaveAllPlaces us cs → HaveAllPlaces (changed_all cs us) (taken_all cs us)
+  all_places_stay : (cs : Changes) (us : List Tree) → HaveAllPlaces us cs
+      → HaveAllPlaces (changed_all cs us) (taken_all cs us)
   all_places_stay no_more us h = tt
   all_places_stay (and_then c cs) [] h = absurd h
   all_places_stay (and_then c cs) (u ∷ us) h = (places_stay c u h.0, all_places_stay cs us h.1)

@@ -129,4 +129,5 @@ FitsWithMoreModules = (log : List Entry) (s : Store) (name : List ℕ) → Fits 
 
 abbrev pub FitsForwardWithMoreModules : Type 0
 FitsForwardWithMoreModules = (log : List Entry) (s : Store) (name : List ℕ) → FitsForward log s
-    → FitsForward log (with_module_slot s name) × (after log (with_module_slot s name) ≡ with_module_slot (after log s) name)
+    → FitsForward log (with_module_slot s name)
+    × (after log (with_module_slot s name) ≡ with_module_slot (after log s) name)

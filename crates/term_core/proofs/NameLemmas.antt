@@ -10,14 +10,16 @@ taken : (b : ℕ) (bs : List ℕ) (goes_on : Bool) → continues_word b ≡ goes
     → list_all continues_word (take (cond goes_on (1 + prefix_len continues_word bs) 0) (b ∷ bs)) ≡ true
 taken b bs true e h =
     let one : 1 + prefix_len continues_word bs ≡ suc (prefix_len continues_word bs) = omega arith in
-    ap (λ i. list_all continues_word (take i (b ∷ bs))) one ∙ ap (λ c. c && list_all continues_word (take (prefix_len continues_word bs) bs)) e ∙ h
+    ap (λ i. list_all continues_word (take i (b ∷ bs))) one
+    ∙ ap (λ c. c && list_all continues_word (take (prefix_len continues_word bs) bs)) e ∙ h
 taken b bs false e h = refl
 
 list_all-taken : (bs : List ℕ) → Taken bs
 list_all-taken [] = refl
 list_all-taken (b ∷ bs) = taken b bs (continues_word b) refl (list_all-taken bs)
 
-pub front-is-word : (b : ℕ) (bs text front : List ℕ) (n : ℕ) → begins_word b ≡ true → text ≡ b ∷ bs → n ≡ prefix_len continues_word bs
+pub front-is-word : (b : ℕ) (bs text front : List ℕ) (n : ℕ)
+    → begins_word b ≡ true → text ≡ b ∷ bs → n ≡ prefix_len continues_word bs
     → front ≡ take (1 + n) text → is_word front ≡ true
 front-is-word b bs text front n h e m k =
     let one : 1 + n ≡ suc n = omega arith in

@@ -17,7 +17,8 @@ and-right false b e = absurd (cc)
 pub same_name-true : (f g : Symbol) → same_name f g ≡ true → f ≡ g
 same_name-true f g e = λ i. record {
   text = (bytes_eq-Decides f.text g.text).0 (and-right (beq f.is_quoted g.is_quoted) (bytes_eq f.text g.text) e) i;
-  is_quoted = (booleans_Decides f.is_quoted g.is_quoted).0 (and-left (beq f.is_quoted g.is_quoted) (bytes_eq f.text g.text) e) i;
+  is_quoted = (booleans_Decides f.is_quoted g.is_quoted).0
+      (and-left (beq f.is_quoted g.is_quoted) (bytes_eq f.text g.text) e) i;
 }
 
 pub same_name-self : (f : Symbol) → same_name f f ≡ true

@@ -23,13 +23,15 @@ annotations-node_term (Application name) us notes = to_list-of_list notes
 annotations-node_term AList us notes = to_list-of_list notes
 annotations-node_term Tuple us notes = to_list-of_list notes
 
-pub with_annotations-node_term : (n : Node) (us notes other : List Tree) → with_annotations (node_term n us notes) other ≡ node_term n us other
+pub with_annotations-node_term : (n : Node) (us notes other : List Tree)
+    → with_annotations (node_term n us notes) other ≡ node_term n us other
 with_annotations-node_term (Integer z) us notes other = refl
 with_annotations-node_term (Application name) us notes other = refl
 with_annotations-node_term AList us notes other = refl
 with_annotations-node_term Tuple us notes other = refl
 
-pub with_children-node_term : (n : Node) (us notes other : List Tree) → length other ≡ length us → node_shape n us → with_children (node_term n us notes) other ≡ node_term n other notes
+pub with_children-node_term : (n : Node) (us notes other : List Tree) → length other ≡ length us → node_shape n us
+    → with_children (node_term n us notes) other ≡ node_term n other notes
 with_children-node_term (Integer z) us notes other e h = refl
 with_children-node_term (Application name) us notes other e h = refl
 with_children-node_term AList us notes other e h = refl
@@ -53,18 +55,25 @@ root-node_term Tuple us notes = refl
 pub same_root : (n m : Node) (us vs ns ms : List Tree) → node_term n us ns ≡ node_term m vs ms → n ≡ m
 same_root n m us vs ns ms e = sym (root-node_term n us ns) ∙ ap root e ∙ root-node_term m vs ms
 
-pub same_children : (n m : Node) (us vs ns ms : List Tree) → node_shape n us → node_shape m vs → node_term n us ns ≡ node_term m vs ms → us ≡ vs
+pub same_children : (n m : Node) (us vs ns ms : List Tree) → node_shape n us → node_shape m vs
+    → node_term n us ns ≡ node_term m vs ms → us ≡ vs
 same_children n m us vs ns ms h k e = sym (children-node_term n us ns h) ∙ ap children e ∙ children-node_term m vs ms k
 
 pub same_annotations : (n m : Node) (us vs ns ms : List Tree) → node_term n us ns ≡ node_term m vs ms → ns ≡ ms
-same_annotations n m us vs ns ms e = sym (annotations-node_term n us ns) ∙ ap annotations e ∙ annotations-node_term m vs ms
+same_annotations n m us vs ns ms e = sym (annotations-node_term n us ns) ∙ ap annotations e
+    ∙ annotations-node_term m vs ms
 
-pub same_term : (n m : Node) (us vs ns ms : List Tree) → n ≡ m → us ≡ vs → ns ≡ ms → node_term n us ns ≡ node_term m vs ms
+pub same_term : (n m : Node) (us vs ns ms : List Tree)
+    → n ≡ m → us ≡ vs → ns ≡ ms → node_term n us ns ≡ node_term m vs ms
 same_term n m us vs ns ms p q r = λ i. node_term (p i) (q i) (r i)
 
 -- a vector's `get_mut` gives the element at the index
-pub option_copied_mut-get : (o : Option (MutBor Tree)) (us : List Tree) (n i : ℕ) → n ≡ length us → (IsSome o → i < n) × (i < n → IsSome o) → IfSome o (λ x. x.now ≡ get_or us i x.now) → option_copied_mut o ≡ slice_get us i
-option_copied_mut-get None us n i e h k = let past : n < suc i = lt_of_not-le (λ lt. let no = h.1 lt in cc) in sym (slice_get_past us i (omega (arith, past, e)))
+pub option_copied_mut-get : (o : Option (MutBor Tree)) (us : List Tree) (n i : ℕ) → n ≡ length us
+    → (IsSome o → i < n) × (i < n → IsSome o) → IfSome o (λ x. x.now ≡ get_or us i x.now)
+    → option_copied_mut o ≡ slice_get us i
+option_copied_mut-get None us n i e h k = let past : n < suc i = lt_of_not-le (λ lt. let no = h.1 lt in cc) in
+    sym (slice_get_past us i (omega (arith, past, e)))
 option_copied_mut-get (Some x) us n i e h k = sym (slice_get_read us n i x.now e (h.0 refl) k)
 
-pub ruleset term_parts = (to_list-of_list, of_list-to_list, children-node_term, annotations-node_term, with_annotations-node_term)
+pub ruleset term_parts =
+    (to_list-of_list, of_list-to_list, children-node_term, annotations-node_term, with_annotations-node_term)

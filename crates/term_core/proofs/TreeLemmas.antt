@@ -30,11 +30,15 @@ sizes-append : (us : List Tree) (v : Tree) → sizes (of_list (us ++ v ∷ [])) 
 sizes-append [] v = omega arith
 sizes-append (u ∷ us) v = omega (arith, sizes-append us v)
 
-pub heights-take_more : (us : List Tree) (i : ℕ) (v : Tree) → i < length us → v ≡ get_or us i v → heights (of_list (take (i + 1) us)) ≡ max (heights (of_list (take i us))) (height v)
-heights-take_more us i v h e = ap (λ l. heights (of_list l)) (take_more us i v h ∙ ap (λ x. take i us ++ x ∷ []) (sym e)) ∙ heights-append (take i us) v
+pub heights-take_more : (us : List Tree) (i : ℕ) (v : Tree) → i < length us → v ≡ get_or us i v
+    → heights (of_list (take (i + 1) us)) ≡ max (heights (of_list (take i us))) (height v)
+heights-take_more us i v h e = ap (λ l. heights (of_list l))
+    (take_more us i v h ∙ ap (λ x. take i us ++ x ∷ []) (sym e)) ∙ heights-append (take i us) v
 
-pub sizes-take_more : (us : List Tree) (i : ℕ) (v : Tree) → i < length us → v ≡ get_or us i v → sizes (of_list (take (i + 1) us)) ≡ sizes (of_list (take i us)) + size v
-sizes-take_more us i v h e = ap (λ l. sizes (of_list l)) (take_more us i v h ∙ ap (λ x. take i us ++ x ∷ []) (sym e)) ∙ sizes-append (take i us) v
+pub sizes-take_more : (us : List Tree) (i : ℕ) (v : Tree) → i < length us → v ≡ get_or us i v
+    → sizes (of_list (take (i + 1) us)) ≡ sizes (of_list (take i us)) + size v
+sizes-take_more us i v h e = ap (λ l. sizes (of_list l)) (take_more us i v h ∙ ap (λ x. take i us ++ x ∷ []) (sym e))
+    ∙ sizes-append (take i us) v
 
 pub heights-take : (us : List Tree) (i : ℕ) → heights (of_list (take i us)) ≤ heights (of_list us)
 heights-take us zero = omega arith
@@ -51,12 +55,14 @@ sizes-take (u ∷ us) (suc i) = omega (arith, sizes-take us i)
 get_or-lower : (ts : Trees) (i : ℕ) (d : Tree) → i < length (to_list ts) → height (get_or (to_list ts) i d) ≤ heights ts
 get_or-lower none i d h = absurd (omega arith)
 get_or-lower (more t ts) zero d h = omega arith
-get_or-lower (more t ts) (suc i) d h = let lower : i < length (to_list ts) = omega arith in omega (arith, get_or-lower ts i d lower)
+get_or-lower (more t ts) (suc i) d h = let lower : i < length (to_list ts) = omega arith in
+    omega (arith, get_or-lower ts i d lower)
 
 pub child-lower : (t : Tree) (i : ℕ) (d : Tree) → i < length (children t) → height (get_or (children t) i d) < height t
 child-lower (integer z notes) i d h = absurd (omega arith)
 child-lower (branch head kids notes) i d h = omega (arith, get_or-lower kids i d h)
 
-pub annotation-lower : (t : Tree) (i : ℕ) (d : Tree) → i < length (annotations t) → height (get_or (annotations t) i d) < height t
+pub annotation-lower : (t : Tree) (i : ℕ) (d : Tree) → i < length (annotations t)
+    → height (get_or (annotations t) i d) < height t
 annotation-lower (integer z notes) i d h = omega (arith, get_or-lower notes i d h)
 annotation-lower (branch head kids notes) i d h = omega (arith, get_or-lower notes i d h)

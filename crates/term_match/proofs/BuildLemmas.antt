@@ -16,7 +16,8 @@ pub build_count : (ps : List ResolvedPattern) (E : List ℕ) (B : Bindings) (us 
     → build_patterns (resolved_patterns_of ps) E B ≡ Some us → length us ≡ length ps
 build_count [] E B us e = ap length (sym (same_Some [] us e))
 build_count (p ∷ ps) E B us e =
-    option_and_then_some (λ u. option_map (λ vs. u ∷ vs) (build_patterns (resolved_patterns_of ps) E B)) (build_pattern p E B) us e
+    option_and_then_some (λ u. option_map (λ vs. u ∷ vs) (build_patterns (resolved_patterns_of ps) E B))
+    (build_pattern p E B) us e
     (λ u h f. mapped_some (λ vs. u ∷ vs) (build_patterns (resolved_patterns_of ps) E B) us f
     (λ vs g k. sym (ap length k) ∙ ap suc (build_count ps E B vs g)))
 

@@ -100,7 +100,8 @@ counts_differ [] [] E B h = absurd (h refl)
 counts_differ [] (t ∷ ts) E B h = refl
 counts_differ (p ∷ ps) [] E B h = refl
 counts_differ (p ∷ ps) (t ∷ ts) E B h =
-    elim (match_pattern p t E B) as (λ o. option_and_then (λ B1. match_patterns (resolved_patterns_of ps) ts E B1) o ≡ None) [
+    elim (match_pattern p t E B) as (λ o.
+    option_and_then (λ B1. match_patterns (resolved_patterns_of ps) ts E B1) o ≡ None) [
       | None ↦ refl
       | Some B1 ↦ counts_differ ps ts E B1 (λ e. h (ap suc e))
     ]
@@ -109,14 +110,18 @@ counts_differ (p ∷ ps) (t ∷ ts) E B h =
 abbrev pub matched_from : List ResolvedPattern → List Tree → List ℕ → ℕ → Bindings → Option Bindings
 matched_from ps ts E i B = match_patterns (resolved_patterns_of (drop i ps)) (drop i ts) E B
 
-matched_more : (ps : List ResolvedPattern) (ts : List Tree) (E : List ℕ) (i : ℕ) (B : Bindings) (p : ResolvedPattern) (t : Tree)
+matched_more : (ps : List ResolvedPattern) (ts : List Tree) (E : List ℕ) (i : ℕ) (B : Bindings) (p : ResolvedPattern)
+    (t : Tree)
     → i < length ps → p ≡ get_or ps i p → slice_get ts i ≡ Some t
     → matched_from ps ts E i B ≡ option_and_then (λ B1. matched_from ps ts E (i + 1) B1) (match_pattern p t E B)
 matched_more ps ts E i B p t h e f =
-    (λ k. match_patterns (resolved_patterns_of (drop_more ps i p h k)) (drop_more ts i t (slice_get_within ts i t f) k) E B)
-    ∙ (λ k. option_and_then (λ B1. matched_from ps ts E (i + 1) B1) (match_pattern (sym e k) (get_or_from_slice_get ts i t t f k) E B))
+    (λ k.
+    match_patterns (resolved_patterns_of (drop_more ps i p h k)) (drop_more ts i t (slice_get_within ts i t f) k) E B)
+    ∙ (λ k. option_and_then (λ B1. matched_from ps ts E (i + 1) B1)
+    (match_pattern (sym e k) (get_or_from_slice_get ts i t t f k) E B))
 
-pub matched_next : (ps : List ResolvedPattern) (ts : List Tree) (E : List ℕ) (whole : Option Bindings) (i : ℕ) (B C : Bindings)
+pub matched_next : (ps : List ResolvedPattern) (ts : List Tree) (E : List ℕ) (whole : Option Bindings) (i : ℕ)
+    (B C : Bindings)
     (p : ResolvedPattern) (t : Tree) (found : Bool) → i < length ps → p ≡ get_or ps i p → slice_get ts i ≡ Some t
     → matched_from ps ts E i B ≡ whole → match_pattern p t E B ≡ cond found (Some C) None → found ≡ true
     → matched_from ps ts E (i + 1) C ≡ whole
@@ -124,7 +129,8 @@ matched_next ps ts E whole i B C p t found h e f w m y =
     sym (yes_then (match_pattern p t E B) (λ B1. matched_from ps ts E (i + 1) B1) C found m y)
     ∙ sym (matched_more ps ts E i B p t h e f) ∙ w
 
-pub matched_no : (ps : List ResolvedPattern) (ts : List Tree) (E : List ℕ) (whole : Option Bindings) (i : ℕ) (B C : Bindings)
+pub matched_no : (ps : List ResolvedPattern) (ts : List Tree) (E : List ℕ) (whole : Option Bindings) (i : ℕ)
+    (B C : Bindings)
     (p : ResolvedPattern) (t : Tree) (found : Bool) → i < length ps → p ≡ get_or ps i p → slice_get ts i ≡ Some t
     → matched_from ps ts E i B ≡ whole → match_pattern p t E B ≡ cond found (Some C) None → found ≡ false → whole ≡ None
 matched_no ps ts E whole i B C p t found h e f w m y =
@@ -136,12 +142,15 @@ slice_get_none [] i e = omega arith
 slice_get_none (t ∷ ts) zero e = absurd (none-some t (sym e))
 slice_get_none (t ∷ ts) (suc i) e = omega (arith, slice_get_none ts i e)
 
-pub matched_missing : (ps : List ResolvedPattern) (ts : List Tree) (E : List ℕ) (whole : Option Bindings) (i : ℕ) (B : Bindings)
+pub matched_missing : (ps : List ResolvedPattern) (ts : List Tree) (E : List ℕ) (whole : Option Bindings) (i : ℕ)
+    (B : Bindings)
     (p : ResolvedPattern) → i < length ps → slice_get ts i ≡ None → matched_from ps ts E i B ≡ whole → whole ≡ None
 matched_missing ps ts E whole i B p h f w =
-    sym w ∙ (λ k. match_patterns (resolved_patterns_of (drop_more ps i p h k)) (drop_all i ts (slice_get_none ts i f) k) E B)
+    sym w
+    ∙ (λ k. match_patterns (resolved_patterns_of (drop_more ps i p h k)) (drop_all i ts (slice_get_none ts i f) k) E B)
 
-pub matched_all : (ps : List ResolvedPattern) (ts : List Tree) (E : List ℕ) (whole : Option Bindings) (i : ℕ) (B : Bindings)
+pub matched_all : (ps : List ResolvedPattern) (ts : List Tree) (E : List ℕ) (whole : Option Bindings) (i : ℕ)
+    (B : Bindings)
     → length ps ≤ i → length ts ≤ i → matched_from ps ts E i B ≡ whole → whole ≡ Some B
 matched_all ps ts E whole i B h k w =
     sym w ∙ (λ j. match_patterns (resolved_patterns_of (drop_all i ps h j)) (drop_all i ts k j) E B)
@@ -155,13 +164,16 @@ slice_get_front (t ∷ ts) (suc n) (suc i) h = slice_get_front ts n i (omega (ar
 
 -- ---- forms
 
-pub compound_headless : (h : Head) (ps : List ResolvedPattern) (t : Tree) (E : List ℕ) (B : Bindings) → is_headed h t ≡ false
+pub compound_headless : (h : Head) (ps : List ResolvedPattern) (t : Tree) (E : List ℕ) (B : Bindings)
+    → is_headed h t ≡ false
     → match_pattern (compound h (resolved_patterns_of ps)) t E B ≡ None
 compound_headless h ps t E B e =
     ap (λ b. cond b (match_patterns (resolved_patterns_of ps) (children t) E B) None) e
 
-pub compound_matched : (h : Head) (ps : List ResolvedPattern) (t : Tree) (E : List ℕ) (B : Bindings) → is_headed h t ≡ true
-    → match_pattern (compound h (resolved_patterns_of ps)) t E B ≡ match_patterns (resolved_patterns_of ps) (children t) E B
+pub compound_matched : (h : Head) (ps : List ResolvedPattern) (t : Tree) (E : List ℕ) (B : Bindings)
+    → is_headed h t ≡ true
+    → match_pattern (compound h (resolved_patterns_of ps)) t E B
+    ≡ match_patterns (resolved_patterns_of ps) (children t) E B
 compound_matched h ps t E B e =
     ap (λ b. cond b (match_patterns (resolved_patterns_of ps) (children t) E B) None) e
 
@@ -177,7 +189,8 @@ pub tail_listless : (ps : List ResolvedPattern) (p : ResolvedPattern) (t : Tree)
 tail_listless ps p t E B r e f =
     ap (option_and_then (λ us. option_and_then
     (λ B1. match_pattern p (list_term (drop (length (resolved_pattern_list (resolved_patterns_of ps))) us)) E B1)
-    (match_patterns (resolved_patterns_of ps) (take (length (resolved_pattern_list (resolved_patterns_of ps))) us) E B)))
+    (match_patterns (resolved_patterns_of ps)
+    (take (length (resolved_pattern_list (resolved_patterns_of ps))) us) E B)))
     (e ∙ ap (λ b. cond b (Some (children t)) None) f)
 
 pub tail_listed : (ps : List ResolvedPattern) (p : ResolvedPattern) (t : Tree) (E : List ℕ) (B : Bindings) (r : Bool)
@@ -186,7 +199,8 @@ pub tail_listed : (ps : List ResolvedPattern) (p : ResolvedPattern) (t : Tree) (
 tail_listed ps p t E B r e f =
     ap (option_and_then (λ us. option_and_then
     (λ B1. match_pattern p (list_term (drop (length (resolved_pattern_list (resolved_patterns_of ps))) us)) E B1)
-    (match_patterns (resolved_patterns_of ps) (take (length (resolved_pattern_list (resolved_patterns_of ps))) us) E B)))
+    (match_patterns (resolved_patterns_of ps)
+    (take (length (resolved_pattern_list (resolved_patterns_of ps))) us) E B)))
     (e ∙ ap (λ b. cond b (Some (children t)) None) f)
     ∙ ap (λ (l : List ResolvedPattern). option_and_then
     (λ B1. match_pattern p (list_term (drop (length l) (children t))) E B1)

@@ -6,8 +6,11 @@ use Rattle.term_core.proofs.TreeLemmas.{of_list-to_list}
 
 pub children_lower : (t : Tree) (us : List Tree) → us ≡ children t → heights (of_list us) < height t
 children_lower (integer z notes) us e = omega (arith, ap (λ l. heights (of_list l)) e)
-children_lower (branch h kids notes) us e = omega (arith, ap (λ l. heights (of_list l)) e, ap heights (of_list-to_list kids))
+children_lower (branch h kids notes) us e =
+    omega (arith, ap (λ l. heights (of_list l)) e, ap heights (of_list-to_list kids))
 
 pub annotations_lower : (t : Tree) (us : List Tree) → us ≡ annotations t → heights (of_list us) < height t
-annotations_lower (integer z notes) us e = omega (arith, ap (λ l. heights (of_list l)) e, ap heights (of_list-to_list notes))
-annotations_lower (branch h kids notes) us e = omega (arith, ap (λ l. heights (of_list l)) e, ap heights (of_list-to_list notes))
+annotations_lower (integer z notes) us e =
+    omega (arith, ap (λ l. heights (of_list l)) e, ap heights (of_list-to_list notes))
+annotations_lower (branch h kids notes) us e =
+    omega (arith, ap (λ l. heights (of_list l)) e, ap heights (of_list-to_list notes))

@@ -19,7 +19,8 @@ both_equal Equal b e = (refl, e)
 both_equal Greater b e = absurd (cc)
 
 less_then : (a b c p q r : Ordering) → ordering_then a p ≡ Less → ordering_then b q ≡ Less
-    → (a ≡ Less → b ≡ Less → c ≡ Less) → (a ≡ Equal → c ≡ b) → (b ≡ Equal → c ≡ a) → (p ≡ Less → q ≡ Less → r ≡ Less) → ordering_then c r ≡ Less
+    → (a ≡ Less → b ≡ Less → c ≡ Less) → (a ≡ Equal → c ≡ b) → (b ≡ Equal → c ≡ a) → (p ≡ Less → q ≡ Less → r ≡ Less)
+    → ordering_then c r ≡ Less
 less_then Less Less c p q r e f both left right rest = ap (λ o. ordering_then o r) (both refl refl)
 less_then Less Equal c p q r e f both left right rest = ap (λ o. ordering_then o r) (right refl)
 less_then Less Greater c p q r e f both left right rest = absurd (cc)
@@ -68,7 +69,8 @@ heads_by_rank tuple list = refl
 heads_by_rank tuple tuple = refl
 
 heads_total : IsTotalOrder compared_heads
-heads_total = subst (λ (R : Head → Head → Ordering). IsTotalOrder R) (λ i g h. heads_by_rank g h i) (then_total (on_total rank nat_cmp_total) (on_total name_in names_total))
+heads_total = subst (λ (R : Head → Head → Ordering). IsTotalOrder R) (λ i g h. heads_by_rank g h i)
+    (then_total (on_total rank nat_cmp_total) (on_total name_in names_total))
 
 heads_same : (g h : Head) → compared_heads g h ≡ Equal → g ≡ h
 heads_same (application f) (application g) e = ap application (names_same f g e)
@@ -113,7 +115,8 @@ mutual
 mutual
   turn : (t u : Tree) → compared t u ≡ ordering_reverse (compared u t)
   turn (integer x ms) (integer y ns) =
-      (λ i. ordering_then (int_cmp_total.antisymm x y i) (all_turn ms ns i)) ∙ then_flip (int_cmp y x) (compared_all ns ms)
+      (λ i. ordering_then (int_cmp_total.antisymm x y i) (all_turn ms ns i))
+      ∙ then_flip (int_cmp y x) (compared_all ns ms)
   turn (integer x ms) (branch h us ns) = refl
   turn (branch g ts ms) (integer y ns) = refl
   turn (branch g ts ms) (branch h us ns) =
@@ -131,8 +134,10 @@ mutual
 mutual
   chain : (t u v : Tree) → compared t u ≡ Less → compared u v ≡ Less → compared t v ≡ Less
   chain (integer x ms) (integer y ns) (integer z os) e f =
-      less_then (int_cmp x y) (int_cmp y z) (int_cmp x z) (compared_all ms ns) (compared_all ns os) (compared_all ms os) e f
-      (int_cmp_total.trans x y z) (int_cmp_total.congr x y z) (λ a. sym (alike_right int_cmp_total y z x a)) (all_chain ms ns os)
+      less_then (int_cmp x y) (int_cmp y z) (int_cmp x z) (compared_all ms ns) (compared_all ns os)
+      (compared_all ms os) e f
+      (int_cmp_total.trans x y z) (int_cmp_total.congr x y z) (λ a. sym (alike_right int_cmp_total y z x a))
+      (all_chain ms ns os)
   chain (integer x ms) (integer y ns) (branch k vs os) e f = refl
   chain (integer x ms) (branch h us ns) (integer z os) e f = absurd (cc)
   chain (integer x ms) (branch h us ns) (branch k vs os) e f = refl
@@ -140,10 +145,14 @@ mutual
   chain (branch g ts ms) (branch h us ns) (integer z os) e f = absurd (cc)
   chain (branch g ts ms) (branch h us ns) (branch k vs os) e f =
       less_then (compared_heads g h) (compared_heads h k) (compared_heads g k)
-      (ordering_then (compared_all ts us) (compared_all ms ns)) (ordering_then (compared_all us vs) (compared_all ns os)) (ordering_then (compared_all ts vs) (compared_all ms os)) e f
+      (ordering_then (compared_all ts us) (compared_all ms ns))
+      (ordering_then (compared_all us vs) (compared_all ns os))
+      (ordering_then (compared_all ts vs) (compared_all ms os)) e f
       (heads_total.trans g h k) (heads_total.congr g h k) (λ a. sym (alike_right heads_total h k g a))
-      (λ a b. less_then (compared_all ts us) (compared_all us vs) (compared_all ts vs) (compared_all ms ns) (compared_all ns os) (compared_all ms os) a b
-      (all_chain ts us vs) (λ c. ap (λ l. compared_all l vs) (all_same ts us c)) (λ c. ap (compared_all ts) (sym (all_same us vs c))) (all_chain ms ns os))
+      (λ a b. less_then (compared_all ts us) (compared_all us vs) (compared_all ts vs) (compared_all ms ns)
+      (compared_all ns os) (compared_all ms os) a b
+      (all_chain ts us vs) (λ c. ap (λ l. compared_all l vs) (all_same ts us c))
+      (λ c. ap (compared_all ts) (sym (all_same us vs c))) (all_chain ms ns os))
 
   all_chain : (ts us vs : Trees) → compared_all ts us ≡ Less → compared_all us vs ≡ Less → compared_all ts vs ≡ Less
   all_chain none none vs e f = absurd (cc)
@@ -152,8 +161,10 @@ mutual
   all_chain (more t ts) none vs e f = absurd (cc)
   all_chain (more t ts) (more u us) none e f = absurd (cc)
   all_chain (more t ts) (more u us) (more v vs) e f =
-      less_then (compared t u) (compared u v) (compared t v) (compared_all ts us) (compared_all us vs) (compared_all ts vs) e f
-      (chain t u v) (λ a. ap (λ w. compared w v) (same t u a)) (λ a. ap (compared t) (sym (same u v a))) (all_chain ts us vs)
+      less_then (compared t u) (compared u v) (compared t v) (compared_all ts us) (compared_all us vs)
+      (compared_all ts vs) e f
+      (chain t u v) (λ a. ap (λ w. compared w v) (same t u a)) (λ a. ap (compared t) (sym (same u v a)))
+      (all_chain ts us vs)
 
 pub order : IsTotalOrder compared
 order = record { antisymm = turn; trans = chain; congr = λ t u v e. ap (λ w. compared w v) (same t u e) }

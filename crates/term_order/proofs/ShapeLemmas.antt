@@ -14,7 +14,8 @@ use Rattle.term_order.proofs.TableLemmas.{terms_are_their_tables}
 
 -- a term with five parts, the first of them a number
 abbrev IsNode : Tree → Type 0
-IsNode t = (n : ℕ) × (a : Tree) × (k : Tree) × (v : Tree) × (b : Tree) × (t ≡ tuple_term (integer_term (pos n) ∷ a ∷ k ∷ v ∷ b ∷ []))
+IsNode t = (n : ℕ) × (a : Tree) × (k : Tree) × (v : Tree) × (b : Tree)
+    × (t ≡ tuple_term (integer_term (pos n) ∷ a ∷ k ∷ v ∷ b ∷ []))
 
 written_node : (x : Table) (t : Tree) → term_of x ≡ t → is_node x ≡ true → IsNode t
 written_node empty t e h = absurd (cc)
@@ -47,7 +48,8 @@ pub no_node_but_plain : (t : Tree) → (t ≡ tuple_term (children t) → ⊥) �
 no_node_but_plain t h = no_node t (λ p. h (plain_again t (integer_term (pos p.0) ∷ p.1 ∷ p.2 ∷ p.3 ∷ p.4 ∷ []) p.5))
 
 pub no_node_but_five : (t : Tree) → (length (children t) ≡ 5 → ⊥) → is_node (table_of t) ≡ false
-no_node_but_five t h = no_node t (λ p. h (ap length (own_children t (integer_term (pos p.0) ∷ p.1 ∷ p.2 ∷ p.3 ∷ p.4 ∷ []) p.5)))
+no_node_but_five t h =
+    no_node t (λ p. h (ap length (own_children t (integer_term (pos p.0) ∷ p.1 ∷ p.2 ∷ p.3 ∷ p.4 ∷ []) p.5)))
 
 natural_is : (t : Tree) (n : ℕ) → natural_of t ≡ Some n → t ≡ integer_term (pos n)
 natural_is (integer (pos m) none) n e = let same : m ≡ n = cc in ap (λ k. integer_term (pos k)) same
@@ -55,20 +57,24 @@ natural_is (integer (pos m) (more u us)) n e = absurd (cc)
 natural_is (integer (negsuc m) ns) n e = absurd (cc)
 natural_is (branch h us ns) n e = absurd (cc)
 
-pub no_node_but_counted : (t c a k v b : Tree) → children t ≡ c ∷ a ∷ k ∷ v ∷ b ∷ [] → natural_of c ≡ None → is_node (table_of t) ≡ false
+pub no_node_but_counted : (t c a k v b : Tree)
+    → children t ≡ c ∷ a ∷ k ∷ v ∷ b ∷ [] → natural_of c ≡ None → is_node (table_of t) ≡ false
 no_node_but_counted t c a k v b e h =
-    no_node t (λ p. let same : c ∷ a ∷ k ∷ v ∷ b ∷ [] ≡ integer_term (pos p.0) ∷ p.1 ∷ p.2 ∷ p.3 ∷ p.4 ∷ [] = sym e ∙ own_children t (integer_term (pos p.0) ∷ p.1 ∷ p.2 ∷ p.3 ∷ p.4 ∷ []) p.5 in
+    no_node t (λ p. let same : c ∷ a ∷ k ∷ v ∷ b ∷ [] ≡ integer_term (pos p.0) ∷ p.1 ∷ p.2 ∷ p.3 ∷ p.4 ∷ [] = sym e
+    ∙ own_children t (integer_term (pos p.0) ∷ p.1 ∷ p.2 ∷ p.3 ∷ p.4 ∷ []) p.5 in
     let number : c ≡ integer_term (pos p.0) = cc in
     let some : None ≡ Some p.0 = sym h ∙ ap natural_of number in
     cc)
 
-pub node_read : (t c a k v b : Tree) (n : ℕ) → t ≡ tuple_term (children t) → children t ≡ c ∷ a ∷ k ∷ v ∷ b ∷ [] → natural_of c ≡ Some n
+pub node_read : (t c a k v b : Tree) (n : ℕ) → t ≡ tuple_term (children t)
+    → children t ≡ c ∷ a ∷ k ∷ v ∷ b ∷ [] → natural_of c ≡ Some n
     → table_of t ≡ node n (table_of a) k v (table_of b)
 node_read t c a k v b n plain e number =
     ap table_of (plain ∙ ap tuple_term (e ∙ ap (λ x. x ∷ a ∷ k ∷ v ∷ b ∷ []) (natural_is c n number)))
 
 -- a table is smaller than the one that it is a part of
-pub parts_smaller : (t c a k v b : Tree) → t ≡ tuple_term (children t) → children t ≡ c ∷ a ∷ k ∷ v ∷ b ∷ [] → (size a < size t) × (size b < size t)
+pub parts_smaller : (t c a k v b : Tree) → t ≡ tuple_term (children t)
+    → children t ≡ c ∷ a ∷ k ∷ v ∷ b ∷ [] → (size a < size t) × (size b < size t)
 parts_smaller t c a k v b plain e =
     let is : size t ≡ size (tuple_term (c ∷ a ∷ k ∷ v ∷ b ∷ [])) = ap size (plain ∙ ap tuple_term e) in
     (omega (arith, is), omega (arith, is))
@@ -77,7 +83,8 @@ nothing_in : (us : List Tree) → slice_get us 0 ≡ None → us ≡ []
 nothing_in [] h = refl
 nothing_in (u ∷ us) h = absurd (cc)
 
-pub empty_read : (t : Tree) → t ≡ tuple_term (children t) → slice_get (children t) 0 ≡ None → is_empty (table_of t) ≡ true
+pub empty_read : (t : Tree) → t ≡ tuple_term (children t)
+    → slice_get (children t) 0 ≡ None → is_empty (table_of t) ≡ true
 empty_read t plain h = ap (λ x. is_empty (table_of x)) (plain ∙ ap tuple_term (nothing_in (children t) h))
 
 pub not_empty_but_plain : (t : Tree) → (t ≡ tuple_term (children t) → ⊥) → is_empty (table_of t) ≡ false
@@ -95,7 +102,8 @@ no_weight empty h = refl
 no_weight (node n l k v r) h = absurd (cc)
 no_weight (other t) h = refl
 
-pub not_parted : (l : Table) (k v : Tree) (m : Table) (x w : Tree) (r : Table) → is_node m ≡ false → parted l k v m x w r ≡ joined (joined l k v m) x w r
+pub not_parted : (l : Table) (k v : Tree) (m : Table) (x w : Tree) (r : Table)
+    → is_node m ≡ false → parted l k v m x w r ≡ joined (joined l k v m) x w r
 not_parted l k v empty x w r h = refl
 not_parted l k v (node n a y u b) x w r h = absurd (cc)
 not_parted l k v (other t) x w r h = refl
@@ -164,7 +172,8 @@ no_first empty h = refl
 no_first (node n l k v r) h = absurd (cc)
 no_first (other t) h = refl
 
-pub first_own : (n : ℕ) (l : Table) (k v : Tree) (r : Table) → is_empty l ≡ true → first_taken (node n l k v r) ≡ Some ((k, v), r)
+pub first_own : (n : ℕ) (l : Table) (k v : Tree) (r : Table)
+    → is_empty l ≡ true → first_taken (node n l k v r) ≡ Some ((k, v), r)
 first_own n empty k v r e = refl
 first_own n (node m a y u b) k v r e = absurd (cc)
 first_own n (other t) k v r e = absurd (cc)
@@ -176,16 +185,20 @@ first_lesser n (node m a y u b) k v r e = refl
 first_lesser n (other t) k v r e = refl
 
 -- the first entry of a table without lesser keys, and of one with them
-pub first_is_own : (x l r s : Table) (n : ℕ) (k v a b : Tree) → x ≡ node n l k v r → is_empty l ≡ true → a ≡ k → b ≡ v → s ≡ r → Some ((a, b), s) ≡ first_taken x
+pub first_is_own : (x l r s : Table) (n : ℕ) (k v a b : Tree) → x ≡ node n l k v r
+    → is_empty l ≡ true → a ≡ k → b ≡ v → s ≡ r → Some ((a, b), s) ≡ first_taken x
 first_is_own x l r s n k v a b h e key value greater =
     (λ i. Some ((key i, value i), greater i)) ∙ sym (first_own n l k v r e) ∙ sym (ap first_taken h)
 
-pub first_is_lesser : (x l r o m : Table) (n : ℕ) (k v a b : Tree) → x ≡ node n l k v r → is_empty l ≡ false → Some ((a, b), o) ≡ first_taken l → m ≡ balanced o k v r
+pub first_is_lesser : (x l r o m : Table) (n : ℕ) (k v a b : Tree) → x ≡ node n l k v r
+    → is_empty l ≡ false → Some ((a, b), o) ≡ first_taken l → m ≡ balanced o k v r
     → Some ((a, b), m) ≡ first_taken x
 first_is_lesser x l r o m n k v a b h e first made =
-    ap (λ y. Some ((a, b), y)) made ∙ ap (option_map (λ p. (p.0, balanced p.1 k v r))) first ∙ sym (first_lesser n l k v r e) ∙ sym (ap first_taken h)
+    ap (λ y. Some ((a, b), y)) made ∙ ap (option_map (λ p. (p.0, balanced p.1 k v r))) first
+    ∙ sym (first_lesser n l k v r e) ∙ sym (ap first_taken h)
 
-pub merged_first : (l r : Table) → is_empty r ≡ false → merged l r ≡ option_map (λ p. balanced l p.0.0 p.0.1 p.1) (first_taken r)
+pub merged_first : (l r : Table)
+    → is_empty r ≡ false → merged l r ≡ option_map (λ p. balanced l p.0.0 p.0.1 p.1) (first_taken r)
 merged_first l empty e = absurd (cc)
 merged_first l (node n a y u b) e = refl
 merged_first l (other t) e = refl

@@ -21,11 +21,14 @@ set_other (x ∷ us) zero (suc j) u h = refl
 set_other (x ∷ us) (suc i) zero u h = refl
 set_other (x ∷ us) (suc i) (suc j) u h = set_other us i j u (λ e. h (ap suc e))
 
-other_child : (t : Tree) (i j : ℕ) (u : Tree) → Differ i j → slice_get (children (with_child t i u)) j ≡ slice_get (children t) j
+other_child : (t : Tree) (i j : ℕ) (u : Tree) → Differ i j
+    → slice_get (children (with_child t i u)) j ≡ slice_get (children t) j
 other_child (integer z notes) i j u h = refl
-other_child (branch head kids notes) i j u h = ap (λ l. slice_get l j) (to_list-of_list (set (to_list kids) i u)) ∙ set_other (to_list kids) i j u h
+other_child (branch head kids notes) i j u h = ap (λ l. slice_get l j) (to_list-of_list (set (to_list kids) i u))
+    ∙ set_other (to_list kids) i j u h
 
-with_child_comm : (t : Tree) (i j : ℕ) (u v : Tree) → Differ i j → with_child (with_child t i u) j v ≡ with_child (with_child t j v) i u
+with_child_comm : (t : Tree) (i j : ℕ) (u v : Tree) → Differ i j
+    → with_child (with_child t i u) j v ≡ with_child (with_child t j v) i u
 with_child_comm (integer z notes) i j u v h = refl
 with_child_comm (branch head kids notes) i j u v h =
     ap (λ l. branch head (of_list l) notes)
@@ -40,9 +43,11 @@ apart_below i j p q e h =
     (λ w. h.0 (w.0, λ k. e k ∷ w.1 k), λ w. h.1 (w.0, λ k. sym e k ∷ w.1 k))
 
 -- a change below child i doesn't change what is below another child
-at_other : (f : Tree → Tree) (t : Tree) (i j : ℕ) (p q : List ℕ) → Differ i j → at (changed_at f t (i ∷ p)) (j ∷ q) ≡ at t (j ∷ q)
+at_other : (f : Tree → Tree) (t : Tree) (i j : ℕ) (p q : List ℕ) → Differ i j
+    → at (changed_at f t (i ∷ p)) (j ∷ q) ≡ at t (j ∷ q)
 at_other f t i j p q h =
-    elim (slice_get (children t) i) as (λ o. slice_get (children t) i ≡ o → at (changed_at f t (i ∷ p)) (j ∷ q) ≡ at t (j ∷ q)) [
+    elim (slice_get (children t) i) as (λ o.
+    slice_get (children t) i ≡ o → at (changed_at f t (i ∷ p)) (j ∷ q) ≡ at t (j ∷ q)) [
       | None ↦ λ is. ap (λ s. at s (j ∷ q)) (changed_at-no_child f t i p is)
       | Some kid ↦ λ is. ap (λ s. at s (j ∷ q)) (changed_at-child f t kid i p is)
           ∙ ap (option_and_then (λ k. at k q)) (other_child t i j (changed_at f kid p) h)
@@ -56,10 +61,12 @@ at-apart f t (i ∷ p) (j ∷ q) h =
       | inr differ ↦ at_other f t i j p q differ
       | inl same ↦
           ap (λ k. at (changed_at f t (i ∷ p)) (k ∷ q)) (sym same)
-          ∙ (elim (slice_get (children t) i) as (λ o. slice_get (children t) i ≡ o → at (changed_at f t (i ∷ p)) (i ∷ q) ≡ at t (i ∷ q)) [
+          ∙ (elim (slice_get (children t) i) as (λ o.
+          slice_get (children t) i ≡ o → at (changed_at f t (i ∷ p)) (i ∷ q) ≡ at t (i ∷ q)) [
             | None ↦ λ is. ap (λ s. at s (i ∷ q)) (changed_at-no_child f t i p is)
             | Some kid ↦ λ is. ap (λ s. at s (i ∷ q)) (changed_at-child f t kid i p is)
-                ∙ at-child (with_child t i (changed_at f kid p)) (changed_at f kid p) i q (child-with_child t i kid (changed_at f kid p) is)
+                ∙ at-child (with_child t i (changed_at f kid p)) (changed_at f kid p) i q
+                (child-with_child t i kid (changed_at f kid p) is)
                 ∙ at-apart f kid p q (apart_below i j p q same h)
                 ∙ sym (at-child t kid i q is)
           ] refl)
@@ -69,33 +76,40 @@ at-apart f t (i ∷ p) (j ∷ q) h =
 -- ---- either order
 
 -- below two children
-order_other : (f g : Tree → Tree) (t : Tree) (i j : ℕ) (p q : List ℕ) → Differ i j → changed_at g (changed_at f t (i ∷ p)) (j ∷ q) ≡ changed_at f (changed_at g t (j ∷ q)) (i ∷ p)
+order_other : (f g : Tree → Tree) (t : Tree) (i j : ℕ) (p q : List ℕ) → Differ i j
+    → changed_at g (changed_at f t (i ∷ p)) (j ∷ q) ≡ changed_at f (changed_at g t (j ∷ q)) (i ∷ p)
 order_other f g t i j p q h =
-    elim (slice_get (children t) i) as (λ o. slice_get (children t) i ≡ o → changed_at g (changed_at f t (i ∷ p)) (j ∷ q) ≡ changed_at f (changed_at g t (j ∷ q)) (i ∷ p)) [
-      | None ↦ λ is. elim (slice_get (children t) j) as (λ o. slice_get (children t) j ≡ o → changed_at g (changed_at f t (i ∷ p)) (j ∷ q) ≡ changed_at f (changed_at g t (j ∷ q)) (i ∷ p)) [
-        | None ↦ λ js.
-            ap (λ s. changed_at g s (j ∷ q)) (changed_at-no_child f t i p is) ∙ changed_at-no_child g t j q js
-            ∙ sym (ap (λ s. changed_at f s (i ∷ p)) (changed_at-no_child g t j q js) ∙ changed_at-no_child f t i p is)
-        | Some b ↦ λ js. let new = changed_at g b q in
-            ap (λ s. changed_at g s (j ∷ q)) (changed_at-no_child f t i p is) ∙ changed_at-child g t b j q js
-            ∙ sym (ap (λ s. changed_at f s (i ∷ p)) (changed_at-child g t b j q js)
-            ∙ changed_at-no_child f (with_child t j new) i p (other_child t j i new (λ e. h (sym e)) ∙ is))
-      ] refl
-      | Some a ↦ λ is. elim (slice_get (children t) j) as (λ o. slice_get (children t) j ≡ o → changed_at g (changed_at f t (i ∷ p)) (j ∷ q) ≡ changed_at f (changed_at g t (j ∷ q)) (i ∷ p)) [
-        | None ↦ λ js. let new = changed_at f a p in
-            ap (λ s. changed_at g s (j ∷ q)) (changed_at-child f t a i p is)
-            ∙ changed_at-no_child g (with_child t i new) j q (other_child t i j new h ∙ js)
-            ∙ sym (ap (λ s. changed_at f s (i ∷ p)) (changed_at-no_child g t j q js) ∙ changed_at-child f t a i p is)
-        | Some b ↦ λ js. let left = changed_at f a p in let right = changed_at g b q in
-            ap (λ s. changed_at g s (j ∷ q)) (changed_at-child f t a i p is)
-            ∙ changed_at-child g (with_child t i left) b j q (other_child t i j left h ∙ js)
-            ∙ with_child_comm t i j left right h
-            ∙ sym (ap (λ s. changed_at f s (i ∷ p)) (changed_at-child g t b j q js)
-            ∙ changed_at-child f (with_child t j right) a i p (other_child t j i right (λ e. h (sym e)) ∙ is))
-      ] refl
+    elim (slice_get (children t) i) as (λ o. slice_get (children t) i
+    ≡ o → changed_at g (changed_at f t (i ∷ p)) (j ∷ q) ≡ changed_at f (changed_at g t (j ∷ q)) (i ∷ p)) [
+      | None ↦ λ is. elim (slice_get (children t) j) as (λ o. slice_get (children t) j
+          ≡ o → changed_at g (changed_at f t (i ∷ p)) (j ∷ q) ≡ changed_at f (changed_at g t (j ∷ q)) (i ∷ p)) [
+            | None ↦ λ js.
+                ap (λ s. changed_at g s (j ∷ q)) (changed_at-no_child f t i p is) ∙ changed_at-no_child g t j q js
+                ∙ sym
+                (ap (λ s. changed_at f s (i ∷ p)) (changed_at-no_child g t j q js) ∙ changed_at-no_child f t i p is)
+            | Some b ↦ λ js. let new = changed_at g b q in
+                ap (λ s. changed_at g s (j ∷ q)) (changed_at-no_child f t i p is) ∙ changed_at-child g t b j q js
+                ∙ sym (ap (λ s. changed_at f s (i ∷ p)) (changed_at-child g t b j q js)
+                ∙ changed_at-no_child f (with_child t j new) i p (other_child t j i new (λ e. h (sym e)) ∙ is))
+          ] refl
+      | Some a ↦ λ is. elim (slice_get (children t) j) as (λ o. slice_get (children t) j
+          ≡ o → changed_at g (changed_at f t (i ∷ p)) (j ∷ q) ≡ changed_at f (changed_at g t (j ∷ q)) (i ∷ p)) [
+            | None ↦ λ js. let new = changed_at f a p in
+                ap (λ s. changed_at g s (j ∷ q)) (changed_at-child f t a i p is)
+                ∙ changed_at-no_child g (with_child t i new) j q (other_child t i j new h ∙ js)
+                ∙ sym
+                (ap (λ s. changed_at f s (i ∷ p)) (changed_at-no_child g t j q js) ∙ changed_at-child f t a i p is)
+            | Some b ↦ λ js. let left = changed_at f a p in let right = changed_at g b q in
+                ap (λ s. changed_at g s (j ∷ q)) (changed_at-child f t a i p is)
+                ∙ changed_at-child g (with_child t i left) b j q (other_child t i j left h ∙ js)
+                ∙ with_child_comm t i j left right h
+                ∙ sym (ap (λ s. changed_at f s (i ∷ p)) (changed_at-child g t b j q js)
+                ∙ changed_at-child f (with_child t j right) a i p (other_child t j i right (λ e. h (sym e)) ∙ is))
+          ] refl
     ] refl
 
-pub order-apart : (f g : Tree → Tree) (t : Tree) (p q : List ℕ) → AreApart p q → changed_at g (changed_at f t p) q ≡ changed_at f (changed_at g t q) p
+pub order-apart : (f g : Tree → Tree) (t : Tree) (p q : List ℕ) → AreApart p q
+    → changed_at g (changed_at f t p) q ≡ changed_at f (changed_at g t q) p
 order-apart f g t [] q h = absurd (h.1 (q, refl))
 order-apart f g t (i ∷ p) [] h = absurd (h.0 (i ∷ p, refl))
 order-apart f g t (i ∷ p) (j ∷ q) h =
@@ -103,10 +117,12 @@ order-apart f g t (i ∷ p) (j ∷ q) h =
       | inr differ ↦ order_other f g t i j p q differ
       | inl same ↦
           ap (λ k. changed_at g (changed_at f t (i ∷ p)) (k ∷ q)) (sym same)
-          ∙ (elim (slice_get (children t) i) as (λ o. slice_get (children t) i ≡ o → changed_at g (changed_at f t (i ∷ p)) (i ∷ q) ≡ changed_at f (changed_at g t (i ∷ q)) (i ∷ p)) [
+          ∙ (elim (slice_get (children t) i) as (λ o. slice_get (children t) i
+          ≡ o → changed_at g (changed_at f t (i ∷ p)) (i ∷ q) ≡ changed_at f (changed_at g t (i ∷ q)) (i ∷ p)) [
             | None ↦ λ is.
                 ap (λ s. changed_at g s (i ∷ q)) (changed_at-no_child f t i p is) ∙ changed_at-no_child g t i q is
-                ∙ sym (ap (λ s. changed_at f s (i ∷ p)) (changed_at-no_child g t i q is) ∙ changed_at-no_child f t i p is)
+                ∙ sym
+                (ap (λ s. changed_at f s (i ∷ p)) (changed_at-no_child g t i q is) ∙ changed_at-no_child f t i p is)
             | Some kid ↦ λ is. let left = changed_at f kid p in let right = changed_at g kid q in
                 ap (λ s. changed_at g s (i ∷ q)) (changed_at-child f t kid i p is)
                 ∙ changed_at-child g (with_child t i left) left i q (child-with_child t i kid left is)
@@ -131,7 +147,8 @@ apart_commute t u v p q h =
     ∙ sym (ap (λ s. set_at s p u) (set_at-changed t v q) ∙ set_at-changed (changed_at (λ _. v) t q) u p)
 
 pub apart_is_left_by_annotations : ApartIsLeftByAnnotations
-apart_is_left_by_annotations t us p q h = ap (λ s. at s q) (set_annotations_at-changed t us p) ∙ at-apart (λ u. with_annotations u us) t p q h
+apart_is_left_by_annotations t us p q h = ap (λ s. at s q) (set_annotations_at-changed t us p)
+    ∙ at-apart (λ u. with_annotations u us) t p q h
 
 pub apart_annotations_commute : ApartAnnotationsCommute
 apart_annotations_commute t us vs p q h =

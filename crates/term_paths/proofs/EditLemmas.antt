@@ -19,7 +19,8 @@ edits_after_edits (x ∷ e) f t u v h g = (h.0, edits_after_edits e f (set_at t 
 
 -- ---- below a path
 
-pub replaces-child : (e : Edits) (i : ℕ) (t u v : Tree) → slice_get (children t) i ≡ Some u → Replaces e u v → Replaces (prefixed (i ∷ []) e) t (with_child t i v)
+pub replaces-child : (e : Edits) (i : ℕ) (t u v : Tree) → slice_get (children t) i ≡ Some u → Replaces e u v
+    → Replaces (prefixed (i ∷ []) e) t (with_child t i v)
 replaces-child [] i t u v is h = sym (with_child-same t i u is) ∙ ap (with_child t i) h
 replaces-child (x ∷ e) i t u v is h =
     let kid = set_at u x.path x.new in
@@ -44,7 +45,8 @@ edits_of_a_subterm e whole t u [] is h =
     let same : whole ≡ t = cc in
     subst (λ x. Replaces x whole u) (sym (prefixed-root e)) (subst (λ x. Replaces e x u) (sym same) h)
 edits_of_a_subterm e whole t u (i ∷ p) is h =
-    elim (slice_get (children whole) i) as (λ o. slice_get (children whole) i ≡ o → Replaces (prefixed (i ∷ p) e) whole (set_at whole (i ∷ p) u)) [
+    elim (slice_get (children whole) i) as (λ o.
+    slice_get (children whole) i ≡ o → Replaces (prefixed (i ∷ p) e) whole (set_at whole (i ∷ p) u)) [
       | None ↦ λ no. absurd (let none = sym (at-no_child whole i p no) ∙ is in cc)
       | Some kid ↦ λ some.
           subst (Replaces (prefixed (i ∷ p) e) whole) (sym (set_at-child whole kid u i p some))
@@ -60,12 +62,14 @@ edits_lead_back [] t u h = ([], refl, sym h)
 edits_lead_back (x ∷ e) t u h =
     let step = set_at t x.path x.new in
     let rest = edits_lead_back e step u h.1 in
-    elim (at t x.path) as (λ o. at t x.path ≡ o → IsSome o → (back : Edits) × (paths back ≡ reverse (paths (x ∷ e))) × Replaces back u t) [
+    elim (at t x.path) as (λ o. at t x.path ≡ o → IsSome o
+    → (back : Edits) × (paths back ≡ reverse (paths (x ∷ e))) × Replaces back u t) [
       | None ↦ λ is some. absurd (cc)
       | Some old ↦ λ is some.
           let last : Edits = record { path = x.path; new = old } ∷ [] in (
             rest.0 ++ last,
-            map-append (λ y. y.path) rest.0 last ∙ ap (λ l. l ++ (x.path ∷ [])) rest.1 ∙ sym (reverse_onto (paths e) x.path []),
+            map-append (λ y. y.path) rest.0 last ∙ ap (λ l. l ++ (x.path ∷ [])) rest.1
+                ∙ sym (reverse_onto (paths e) x.path []),
             edits_after_edits rest.0 last u step t rest.2
                 (ap is_some (set_is_there t x.new old x.path is), putting_back t x.new old x.path is),
           )

@@ -44,9 +44,11 @@ annotations-with_annotations (integer z notes) us = to_list-of_list us
 annotations-with_annotations (branch head kids notes) us = to_list-of_list us
 
 -- the subterm that has these annotations
-bearer : (t : Tree) (p : List ℕ) (notes : List Tree) → annotations_at t p ≡ Some notes → (u : Tree) × (at t p ≡ Some u) × (annotations u ≡ notes)
+bearer : (t : Tree) (p : List ℕ) (notes : List Tree) → annotations_at t p ≡ Some notes
+    → (u : Tree) × (at t p ≡ Some u) × (annotations u ≡ notes)
 bearer t p notes e =
-    elim (at t p) as (λ o. option_map annotations o ≡ Some notes → (u : Tree) × (o ≡ Some u) × (annotations u ≡ notes)) [
+    elim (at t p) as (λ o. option_map annotations o ≡ Some notes
+    → (u : Tree) × (o ≡ Some u) × (annotations u ≡ notes)) [
       | None ↦ λ e. absurd (cc)
       | Some u ↦ λ e. (u, refl, cc)
     ] e
@@ -67,7 +69,8 @@ set_annotations_are_there t us old p e =
     (ap (λ s. at s p) (set_annotations_at-changed t us p) ∙ at-changed_at (λ u. with_annotations u us) t b.0 p b.1)
     ∙ ap Some (annotations-with_annotations b.0 us)
 
-pub set_annotations_nowhere : (t : Tree) (us : List Tree) (p : List ℕ) → annotations_at t p ≡ None → set_annotations_at t p us ≡ t
+pub set_annotations_nowhere : (t : Tree) (us : List Tree) (p : List ℕ)
+    → annotations_at t p ≡ None → set_annotations_at t p us ≡ t
 set_annotations_nowhere t us p e =
     elim (at t p) as (λ o. at t p ≡ o → set_annotations_at t p us ≡ t) [
       | None ↦ λ is. set_annotations_at-changed t us p ∙ changed_at-nowhere (λ u. with_annotations u us) t p is
@@ -76,17 +79,21 @@ set_annotations_nowhere t us p e =
 
 pub swapping_annotations_twice : SwappingAnnotationsTwiceIsNothing
 swapping_annotations_twice p t us =
-    elim (annotations_at t p) as (λ o. annotations_at t p ≡ o → annotations_swapped p (annotations_swapped p (t, us)) ≡ (t, us)) [
+    elim (annotations_at t p) as (λ o.
+    annotations_at t p ≡ o → annotations_swapped p (annotations_swapped p (t, us)) ≡ (t, us)) [
       | None ↦ λ e.
-          let once : annotations_swapped p (t, us) ≡ (t, us) = λ i. (set_annotations_nowhere t us p e i, unwrap_or (e i) us) in
+          let once : annotations_swapped p (t, us) ≡ (t, us) =
+          λ i. (set_annotations_nowhere t us p e i, unwrap_or (e i) us) in
           ap (annotations_swapped p) once ∙ once
       | Some old ↦ λ e.
-          let once : annotations_swapped p (t, us) ≡ (set_annotations_at t p us, old) = λ i. (set_annotations_at t p us, unwrap_or (e i) us) in
+          let once : annotations_swapped p (t, us) ≡ (set_annotations_at t p us, old) =
+          λ i. (set_annotations_at t p us, unwrap_or (e i) us) in
           ap (annotations_swapped p) once
           ∙ (λ i. (putting_annotations_back t us old p e i, unwrap_or (set_annotations_are_there t us old p e i) old))
     ] refl
 
-with_annotations-with_annotations : (t : Tree) (us vs : List Tree) → with_annotations (with_annotations t us) vs ≡ with_annotations t vs
+with_annotations-with_annotations : (t : Tree) (us vs : List Tree)
+    → with_annotations (with_annotations t us) vs ≡ with_annotations t vs
 with_annotations-with_annotations (integer z notes) us vs = refl
 with_annotations-with_annotations (branch head kids notes) us vs = refl
 

@@ -53,7 +53,8 @@ through-append : (i : ℕ) (ps qs : Ways) → through i (ps ++ qs) ≡ through i
 through-append i [] qs = refl
 through-append i ([] ∷ ps) qs = through-append i ps qs
 through-append i ((j ∷ p) ∷ ps) qs =
-    elim (j == i) as (λ b. cond b (p ∷ through i (ps ++ qs)) (through i (ps ++ qs)) ≡ cond b (p ∷ through i ps) (through i ps) ++ through i qs) [
+    elim (j == i) as (λ b. cond b (p ∷ through i (ps ++ qs)) (through i (ps ++ qs)) ≡ cond b (p ∷ through i ps)
+    (through i ps) ++ through i qs) [
       | true ↦ ap (λ l. p ∷ l) (through-append i ps qs)
       | false ↦ through-append i ps qs
     ]
@@ -69,8 +70,10 @@ mutual
       let n = k (root-right ps qs r) in
       (n.0, n.1, all_agree-after ps qs 0 kids m.0 n.0 m.2 n.2)
 
-  all_agree-after : (ps qs : Ways) (i : ℕ) (ts us vs : Trees) → AllAgree ps i ts us → AllAgree qs i us vs → AllAgree (ps ++ qs) i ts vs
-  all_agree-after ps qs i none none vs h g = elim vs as (λ w. AllAgree qs i none w → AllAgree (ps ++ qs) i none w) [ none ↦ λ k. tt | more v ws ↦ λ k. k ] g
+  all_agree-after : (ps qs : Ways) (i : ℕ) (ts us vs : Trees) → AllAgree ps i ts us → AllAgree qs i us vs
+      → AllAgree (ps ++ qs) i ts vs
+  all_agree-after ps qs i none none vs h g =
+      elim vs as (λ w. AllAgree qs i none w → AllAgree (ps ++ qs) i none w) [ none ↦ λ k. tt | more v ws ↦ λ k. k ] g
   all_agree-after ps qs i none (more u us) vs h g = absurd h
   all_agree-after ps qs i (more t ts) none vs h g = absurd h
   all_agree-after ps qs i (more t ts) (more u us) none h g = absurd g
@@ -88,18 +91,21 @@ through-own : (i : ℕ) (ps : Ways) → through i (below i ps) ≡ ps
 through-own i [] = refl
 through-own i (p ∷ ps) = rw (eq-eqb i i refl) (ap (λ l. p ∷ l) (through-own i ps))
 
-agree-set : (ps : Ways) (i j k : ℕ) (ts : Trees) (u v : Tree) → j ≡ k + i → slice_get (to_list ts) i ≡ Some u → Agrees ps u v → AllAgree (below j ps) k ts (of_list (set (to_list ts) i v))
+agree-set : (ps : Ways) (i j k : ℕ) (ts : Trees) (u v : Tree) → j ≡ k + i → slice_get (to_list ts) i ≡ Some u
+    → Agrees ps u v → AllAgree (below j ps) k ts (of_list (set (to_list ts) i v))
 agree-set ps i j k none u v is some h = absurd (cc)
 agree-set ps zero j k (more t ts) u v is some h =
     let same : u ≡ t = cc in
     let here : j ≡ k = omega (arith, is) in (
-      subst (λ x. Agrees x t v) (sym (ap (λ n. through n (below j ps)) (sym here) ∙ through-own j ps)) (subst (λ x. Agrees ps x v) same h),
+      subst (λ x. Agrees x t v) (sym (ap (λ n. through n (below j ps)) (sym here) ∙ through-own j ps))
+          (subst (λ x. Agrees ps x v) same h),
       subst (AllAgree (below j ps) (suc k) ts) (sym (of_list-to_list ts)) (all_agree-self (below j ps) (suc k) ts),
     )
 agree-set ps (suc i) j k (more t ts) u v is some h =
     (agrees-self (through k (below j ps)) t, agree-set ps i j (suc k) ts u v (omega (arith, is)) some h)
 
-child-agrees : (ps : Ways) (i : ℕ) (t u v : Tree) → slice_get (children t) i ≡ Some u → Agrees ps u v → Agrees (below i ps) t (with_child t i v)
+child-agrees : (ps : Ways) (i : ℕ) (t u v : Tree) → slice_get (children t) i ≡ Some u → Agrees ps u v
+    → Agrees (below i ps) t (with_child t i v)
 child-agrees ps i (integer z notes) u v is h = λ r. refl
 child-agrees ps i (branch x kids notes) u v is h = λ r.
     (of_list (set (to_list kids) i v), refl, agree-set ps i i 0 kids u v (omega arith) is h)
@@ -111,7 +117,8 @@ root-agrees (branch h kids notes) v = λ r. absurd (cc)
 set-agrees : (p : List ℕ) (t v : Tree) → Agrees (p ∷ []) t (set_at t p v)
 set-agrees [] t v = root-agrees t v
 set-agrees (i ∷ p) t v =
-    elim (slice_get (children t) i) as (λ o. slice_get (children t) i ≡ o → Agrees ((i ∷ p) ∷ []) t (option_map_or (λ kid. with_child t i (set_at kid p v)) o t)) [
+    elim (slice_get (children t) i) as (λ o. slice_get (children t) i
+    ≡ o → Agrees ((i ∷ p) ∷ []) t (option_map_or (λ kid. with_child t i (set_at kid p v)) o t)) [
       | None ↦ λ is. agrees-self ((i ∷ p) ∷ []) t
       | Some kid ↦ λ is. child-agrees (p ∷ []) i t kid (set_at kid p v) is (set-agrees p kid v)
     ] refl
@@ -132,7 +139,9 @@ mutual
         | false ↦ λ k. sym (k refl)
       ] h
   outermost-agrees ps (branch x kids notes) u h =
-      elim (has_root ps) as (λ b. (IsFalse b → (others : Trees) × (u ≡ branch x others notes) × AllAgree ps 0 kids others) → cond b u (branch x (all_with_outermost ps 0 kids (kids_of u)) notes) ≡ u) [
+      elim (has_root ps) as (λ b.
+      (IsFalse b → (others : Trees) × (u ≡ branch x others notes) × AllAgree ps 0 kids others)
+      → cond b u (branch x (all_with_outermost ps 0 kids (kids_of u)) notes) ≡ u) [
         | true ↦ λ k. refl
         | false ↦ λ k. let m = k refl in
             ap (λ w. branch x (all_with_outermost ps 0 kids (kids_of w)) notes) m.1

@@ -25,18 +25,21 @@ own = numerals_by_value _ (search rules)
 pub digits_utf8 : (ds : List ℕ) → AreDigits ds → IsUtf8 ds
 digits_utf8 ds h = IsUtf8-from_ascii ds (IsAscii-from_digits ds (own.to ds h))
 
-part_of-some : (ds : List ℕ) → AreDigits ds → 0 < length ds → digits_value 10 ds < 2 ^ 32 → part_of ds ≡ Some (digits_value 10 ds)
+part_of-some : (ds : List ℕ) → AreDigits ds → 0 < length ds
+    → digits_value 10 ds < 2 ^ 32 → part_of ds ≡ Some (digits_value 10 ds)
 part_of-some ds h some fits = grind (arith, nat_tests)
 
 part_of-none : (ds : List ℕ) → ((0 < length ds) × (digits_value 10 ds < 2 ^ 32) → ⊥) → part_of ds ≡ None
 part_of-none ds never = grind (arith, nat_tests)
 
-pub part_parsed : {E : Type 0} (ds : List ℕ) (r : Result ℕ E) (n : ℕ) → AreDigits ds → ParsesUnsigned 32 10 ds r → r ≡ Ok n → Some n ≡ part_of ds
+pub part_parsed : {E : Type 0} (ds : List ℕ) (r : Result ℕ E) (n : ℕ) → AreDigits ds → ParsesUnsigned 32 10 ds r
+    → r ≡ Ok n → Some n ≡ part_of ds
 part_parsed ds r n h parsed e =
     let is = OkIff-at_ok r _ _ n (parse_digits own 32 ds r parsed h) e in
     ap Some is.1 ∙ sym (part_of-some ds h is.0.0 is.0.1)
 
-pub part_refused : {E : Type 0} (ds : List ℕ) (r : Result ℕ E) (d : E) → AreDigits ds → ParsesUnsigned 32 10 ds r → r ≡ Err d → None ≡ part_of ds
+pub part_refused : {E : Type 0} (ds : List ℕ) (r : Result ℕ E) (d : E) → AreDigits ds → ParsesUnsigned 32 10 ds r
+    → r ≡ Err d → None ≡ part_of ds
 part_refused ds r d h parsed e = sym (part_of-none ds (OkIff-at_err r _ _ d (parse_digits own 32 ds r parsed h) e))
 
 -- ---- all parts
@@ -53,22 +56,28 @@ after-nil (Some ys) = refl
 pub no_parts_yet : (xs : List ℕ) (pieces : List (List ℕ)) → xs ≡ [] → parts_of pieces ≡ after xs (parts_of pieces)
 no_parts_yet xs pieces e = sym (ap (λ l. after l (parts_of pieces)) e ∙ after-nil (parts_of pieces))
 
-add_part : (xs : List ℕ) (part : ℕ) (o : Option (List ℕ)) (piece : List ℕ) (pieces : List (List ℕ)) → part_of piece ≡ Some part → parts_of pieces ≡ o → after xs (parts_of (piece ∷ pieces)) ≡ after (xs ++ part ∷ []) o
+add_part : (xs : List ℕ) (part : ℕ) (o : Option (List ℕ)) (piece : List ℕ) (pieces : List (List ℕ))
+    → part_of piece ≡ Some part → parts_of pieces ≡ o → after xs (parts_of (piece ∷ pieces)) ≡ after (xs ++ part ∷ []) o
 add_part xs part None piece pieces e is = grind arith
 add_part xs part (Some ys) piece pieces e is = grind (arith, append_assoc)
 
-pub one_more_part : (pieces : List (List ℕ)) (k : ℕ) (piece : List ℕ) (xs : List ℕ) (part : ℕ) → (k < length pieces) × (piece ≡ get_or pieces k piece) → part_of piece ≡ Some part → after xs (parts_of (drop k pieces)) ≡ after (xs ++ part ∷ []) (parts_of (drop (k + 1) pieces))
+pub one_more_part : (pieces : List (List ℕ)) (k : ℕ) (piece : List ℕ) (xs : List ℕ) (part : ℕ)
+    → (k < length pieces) × (piece ≡ get_or pieces k piece) → part_of piece ≡ Some part
+    → after xs (parts_of (drop k pieces)) ≡ after (xs ++ part ∷ []) (parts_of (drop (k + 1) pieces))
 one_more_part pieces k piece xs part h e =
     ap (λ l. after xs (parts_of l)) (drop_more pieces k piece h.0 ∙ ap (λ p. p ∷ drop (k + 1) pieces) (sym h.1))
     ∙ add_part xs part (parts_of (drop (k + 1) pieces)) piece (drop (k + 1) pieces) e refl
 
-pub no_part : (pieces : List (List ℕ)) (k : ℕ) (piece : List ℕ) (xs : List ℕ) → (k < length pieces) × (piece ≡ get_or pieces k piece) → part_of piece ≡ None → after xs (parts_of (drop k pieces)) ≡ None
+pub no_part : (pieces : List (List ℕ)) (k : ℕ) (piece : List ℕ) (xs : List ℕ) → (k < length pieces)
+    × (piece ≡ get_or pieces k piece) → part_of piece ≡ None → after xs (parts_of (drop k pieces)) ≡ None
 no_part pieces k piece xs h e =
     ap (λ l. after xs (parts_of l)) (drop_more pieces k piece h.0 ∙ ap (λ p. p ∷ drop (k + 1) pieces) (sym h.1))
     ∙ no_part_first xs piece (drop (k + 1) pieces) e
   where
-    no_part_first : (xs piece : List ℕ) (pieces : List (List ℕ)) → part_of piece ≡ None → after xs (parts_of (piece ∷ pieces)) ≡ None
+    no_part_first : (xs piece : List ℕ) (pieces : List (List ℕ))
+        → part_of piece ≡ None → after xs (parts_of (piece ∷ pieces)) ≡ None
     no_part_first xs piece pieces e = grind arith
 
-pub all_parts : (pieces : List (List ℕ)) (k : ℕ) (xs : List ℕ) → k ≡ length pieces → after xs (parts_of (drop k pieces)) ≡ Some xs
+pub all_parts : (pieces : List (List ℕ)) (k : ℕ) (xs : List ℕ) → k ≡ length pieces
+    → after xs (parts_of (drop k pieces)) ≡ Some xs
 all_parts pieces k xs e = ap (λ l. after xs (parts_of l)) (drop_all k pieces (omega arith)) ∙ ap Some (append-nil xs)

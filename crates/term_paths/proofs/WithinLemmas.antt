@@ -16,7 +16,8 @@ unchanged_within f t p q e = changed_at-nowhere f t (p ++ q) (nowhere_within t p
 
 -- ---- any change within
 
-around : (f : Tree → Tree) (t u : Tree) (p q : List ℕ) → changed_at (λ _. u) (changed_at f t (p ++ q)) p ≡ changed_at (λ _. u) t p
+around : (f : Tree → Tree) (t u : Tree) (p q : List ℕ)
+    → changed_at (λ _. u) (changed_at f t (p ++ q)) p ≡ changed_at (λ _. u) t p
 around f t u p q =
     elim (at t p) as (λ o. at t p ≡ o → changed_at (λ _. u) (changed_at f t (p ++ q)) p ≡ changed_at (λ _. u) t p) [
       | None ↦ λ e. ap (λ s. changed_at (λ _. u) s p) (unchanged_within f t p q e)
@@ -25,9 +26,11 @@ around f t u p q =
           ∙ changed_at-changed_at (λ _. changed_at f w q) (λ _. u) t p
     ] refl
 
-inside : (f : Tree → Tree) (t u : Tree) (p q : List ℕ) → changed_at f (changed_at (λ _. u) t p) (p ++ q) ≡ changed_at (λ _. changed_at f u q) t p
+inside : (f : Tree → Tree) (t u : Tree) (p q : List ℕ)
+    → changed_at f (changed_at (λ _. u) t p) (p ++ q) ≡ changed_at (λ _. changed_at f u q) t p
 inside f t u p q =
-    elim (at t p) as (λ o. at t p ≡ o → changed_at f (changed_at (λ _. u) t p) (p ++ q) ≡ changed_at (λ _. changed_at f u q) t p) [
+    elim (at t p) as (λ o.
+    at t p ≡ o → changed_at f (changed_at (λ _. u) t p) (p ++ q) ≡ changed_at (λ _. changed_at f u q) t p) [
       | None ↦ λ e.
           ap (λ s. changed_at f s (p ++ q)) (changed_at-nowhere (λ _. u) t p e)
           ∙ unchanged_within f t p q e
@@ -50,7 +53,8 @@ leads_around f t p q =
 -- ---- annotations
 
 -- annotations and children are independent
-annotated_at : (t : Tree) (notes : List Tree) (q : List ℕ) (i : ℕ) → at (with_annotations t notes) (i ∷ q) ≡ at t (i ∷ q)
+annotated_at : (t : Tree) (notes : List Tree) (q : List ℕ) (i : ℕ)
+    → at (with_annotations t notes) (i ∷ q) ≡ at t (i ∷ q)
 annotated_at (integer z own) notes q i = refl
 annotated_at (branch head kids own) notes q i = refl
 
@@ -59,8 +63,10 @@ annotated_child : (f : Tree → Tree) (t : Tree) (notes : List Tree) (q : List �
 annotated_child f (integer z own) notes q i = refl
 annotated_child f (branch head kids own) notes q i =
     elim (slice_get (to_list kids) i) as (λ o.
-    with_annotations (option_map_or (λ kid. with_child (branch head kids own) i (changed_at f kid q)) o (branch head kids own)) notes
-    ≡ option_map_or (λ kid. with_child (with_annotations (branch head kids own) notes) i (changed_at f kid q)) o (with_annotations (branch head kids own) notes)) [
+    with_annotations
+    (option_map_or (λ kid. with_child (branch head kids own) i (changed_at f kid q)) o (branch head kids own)) notes
+    ≡ option_map_or (λ kid. with_child (with_annotations (branch head kids own) notes) i (changed_at f kid q)) o
+    (with_annotations (branch head kids own) notes)) [
       | None ↦ refl
       | Some kid ↦ refl
     ]
@@ -70,11 +76,13 @@ annotations_and_below : (f : Tree → Tree) (t : Tree) (notes : List Tree) (p q 
     ≡ changed_at f (changed_at (λ u. with_annotations u notes) t p) (p ++ i ∷ q)
 annotations_and_below f t notes p q i =
     let bears : Tree → Tree = λ u. with_annotations u notes in
-    elim (at t p) as (λ o. at t p ≡ o → changed_at bears (changed_at f t (p ++ i ∷ q)) p ≡ changed_at f (changed_at bears t p) (p ++ i ∷ q)) [
+    elim (at t p) as (λ o.
+    at t p ≡ o → changed_at bears (changed_at f t (p ++ i ∷ q)) p ≡ changed_at f (changed_at bears t p) (p ++ i ∷ q)) [
       | None ↦ λ e.
           ap (λ s. changed_at bears s p) (unchanged_within f t p (i ∷ q) e)
           ∙ changed_at-nowhere bears t p e
-          ∙ sym (ap (λ s. changed_at f s (p ++ i ∷ q)) (changed_at-nowhere bears t p e) ∙ unchanged_within f t p (i ∷ q) e)
+          ∙ sym
+          (ap (λ s. changed_at f s (p ++ i ∷ q)) (changed_at-nowhere bears t p e) ∙ unchanged_within f t p (i ∷ q) e)
       | Some w ↦ λ e.
           ap (λ s. changed_at bears s p) (changed_at-append f t w p (i ∷ q) e)
           ∙ changed_at-changed_at (λ _. changed_at f w (i ∷ q)) bears t p
@@ -115,7 +123,8 @@ leads_around_subterm t v p q = ap (λ s. leads s p) (set_at-changed t v (p ++ q)
 
 pub leads_around_annotations : LeadsAroundAnnotations
 leads_around_annotations t notes p q =
-    ap (λ s. leads s p) (set_annotations_at-changed t notes (p ++ q)) ∙ leads_around (λ w. with_annotations w notes) t p q
+    ap (λ s. leads s p)
+    (set_annotations_at-changed t notes (p ++ q)) ∙ leads_around (λ w. with_annotations w notes) t p q
 
 pub below_is_left_by_annotations : BelowIsLeftByAnnotations
 below_is_left_by_annotations t notes p q i =

@@ -7,7 +7,8 @@ use Rattle.term_sorts.specs.inside.SortView.{sort_of}
 use Rattle.term_sorts.specs.declared.sort.Sort.TheInside.{Inside}
 use Rattle.term_sorts.proofs.SortLemmas.{sort_list-sorts_of, sorts_of-sort_list}
 
-pub is_list_sort : (f : Symbol) (ss : List Sort) → f ≡ word (codes "list") → length ss ≤ 1 → IsListSort (sort f (sorts_of ss))
+pub is_list_sort : (f : Symbol) (ss : List Sort) → f ≡ word (codes "list")
+    → length ss ≤ 1 → IsListSort (sort f (sorts_of ss))
 is_list_sort f [] e h = (None, ap (λ (g : Symbol). sort g no_sorts) e)
 is_list_sort f (s ∷ []) e h = (Some s, ap (λ (g : Symbol). sort g (and_sort s no_sorts)) e)
 is_list_sort f (s ∷ (q ∷ ss)) e h = absurd (omega arith)
@@ -50,11 +51,13 @@ pub same_element : (d e : Option Sort) → list_sort d ≡ list_sort e → d ≡
 same_element d e h = sym (element_again d) ∙ ap (λ (s : Sort). element_of (arguments_of s)) h ∙ element_again e
 
 pub list_sort_again : (s : Sort) → IsListSort s → s ≡ list_sort (element_of (arguments_of s))
-list_sort_again s (e, h) = h ∙ ap list_sort (sym (element_again e) ∙ ap (λ (x : Sort). element_of (arguments_of x)) (sym h))
+list_sort_again s (e, h) = h
+    ∙ ap list_sort (sym (element_again e) ∙ ap (λ (x : Sort). element_of (arguments_of x)) (sym h))
 
 pub tuple_is : (s : Sort) (n : ℕ) → IsTupleSort s n → (s ≡ tuple_sort (arguments_of s)) × (length (arguments_of s) ≡ n)
 tuple_is s n (ps, e, l) =
-    let same : arguments_of s ≡ ps = ap arguments_of e ∙ parts_again ps in (e ∙ ap tuple_sort (sym same), ap length same ∙ l)
+    let same : arguments_of s ≡ ps = ap arguments_of e ∙ parts_again ps in
+    (e ∙ ap tuple_sort (sym same), ap length same ∙ l)
 
 -- no sort is one of lists and of tuples
 pub list_no_tuple : (s : Sort) (n : ℕ) → IsListSort s → IsTupleSort s n → ⊥

@@ -32,13 +32,15 @@ turned p q h = elim h as (λ _. AreAlike q p) [ inl a ↦ inl (a.1, a.0) | inr a
 
 -- ---- rows that gained
 
-pub sorts_gained : (to : ℕ) (gained : List ℕ) (old new : List Row) → AllZip (Gains to gained) old new → sorts_in new ≡ sorts_in old
+pub sorts_gained : (to : ℕ) (gained : List ℕ) (old new : List Row) → AllZip (Gains to gained) old new
+    → sorts_in new ≡ sorts_in old
 sorts_gained to gained [] [] h = refl
 sorts_gained to gained [] (r ∷ new) h = absurd h
 sorts_gained to gained (r ∷ old) [] h = absurd h
 sorts_gained to gained (r ∷ old) (q ∷ new) h = λ i. h.0.sort i ∷ sorts_gained to gained old new h.1 i
 
-row_gained : (to : ℕ) (gained : List ℕ) (old new : List Row) (k : ℕ) (n : Row) → AllZip (Gains to gained) old new → slice_get new k ≡ Some n
+row_gained : (to : ℕ) (gained : List ℕ) (old new : List Row) (k : ℕ) (n : Row) → AllZip (Gains to gained) old new
+    → slice_get new k ≡ Some n
     → (o : Row) × (slice_get old k ≡ Some o) × Gains to gained o n
 row_gained to gained [] [] k n h e = absurd (cc)
 row_gained to gained [] (r ∷ new) k n h e = absurd h
@@ -65,10 +67,13 @@ module _ (rows : List Row) (is : List Injection) (table : IsTable rows is) (a b 
         | inr i ↦ subst (λ (x : Sort). HasNumber (sorts_in rows) x) i.2 (table.ends i.0 i.1).0
       ]
 
-  taken_by : (s : Sort) (k : ℕ) (r : Row) → slice_get rows k ≡ Some r → r.sort ≡ s → AreTaken is (sorts_in rows) s r.taken.items
-  taken_by s k r e same = subst (λ (x : Sort). AreTaken is (sorts_in rows) x r.taken.items) same (table.each k r e).taken
+  taken_by : (s : Sort) (k : ℕ) (r : Row) → slice_get rows k ≡ Some r
+      → r.sort ≡ s → AreTaken is (sorts_in rows) s r.taken.items
+  taken_by s k r e same =
+      subst (λ (x : Sort). AreTaken is (sorts_in rows) x r.taken.items) same (table.each k r e).taken
 
-  one_of_each : (HaveClash rows to gained → ⊥) → (s p q : Sort) → Takes is s p → Takes is s b → Takes is a q → AreAlike p q → p ≡ q
+  one_of_each : (HaveClash rows to gained → ⊥) → (s p q : Sort) → Takes is s p → Takes is s b → Takes is a q
+      → AreAlike p q → p ≡ q
   one_of_each clear s p q t tb tq alike =
       let s_is = taker_known s b tb (to, of_to) in
       let p_is = taken_known s p t s_is in
@@ -83,7 +88,11 @@ module _ (rows : List Row) (is : List Injection) (table : IsTable rows is) (a b 
           row.1,
           (
             taken.complete to b of_to tb,
-            (p_is.0, taken.complete p_is.0 p p_is.1 t, (q_is.0, all.complete q_is.0 q q_is.1 tq, other, (p, q, p_is.1, q_is.1, alike))),
+            (
+              p_is.0,
+              taken.complete p_is.0 p p_is.1 t,
+              (q_is.0, all.complete q_is.0 q q_is.1 tq, other, (p, q, p_is.1, q_is.1, alike)),
+            ),
           ),
         ))
       ]
@@ -117,18 +126,24 @@ module _ (rows : List Row) (is : List Injection) (table : IsTable rows is) (a b 
       let takes_p = subst (λ (x : Sort). Takes is r.sort x) (one_sort (sorts_in rows) m tp.0 p tp.1 alike.2) tp.2 in
       let takes_b = subst (λ (x : Sort). Takes is r.sort x) (one_sort (sorts_in rows) to tb.0 b tb.1 of_to) tb.2 in
       let takes_q = subst (λ (x : Sort). Takes is a x) (one_sort (sorts_in rows) n tq.0 q tq.1 alike.3) tq.2 in
-      let same = agreed r.sort p q (takes_as_before is a b r.sort p takes_p) (takes_by_new is a b r.sort q takes_b takes_q) alike.4 in
+      let same = agreed r.sort p q (takes_as_before is a b r.sort p takes_p)
+      (takes_by_new is a b r.sort q takes_b takes_q) alike.4 in
       inner.2.2 (table.once n m q alike.3 (subst (λ (x : Sort). IsNumber (sorts_in rows) m x) same alike.2))
 
   taken_gained : (old new : Row) → Gains to gained old new → AreTaken is (sorts_in rows) old.sort old.taken.items
       → AreTaken (with_one is a b) (sorts_in rows) old.sort new.taken.items
   taken_gained old new gains taken = record {
-    sound = λ n h. elim ((gains.taken n).0 h) as (λ _. (r : Sort) × IsNumber (sorts_in rows) n r × Takes (with_one is a b) old.sort r) [
-      | inl x ↦ let t = taken.sound n x in (t.0, t.1, takes_as_before is a b old.sort t.0 t.2)
-      | inr x ↦ let t = taken.sound to x.0 in
-          let u = all.sound n x.1 in
-          (u.0, u.1, takes_by_new is a b old.sort u.0 (subst (λ (y : Sort). Takes is old.sort y) (one_sort (sorts_in rows) to t.0 b t.1 of_to) t.2) u.2)
-    ];
+    sound = λ n h. elim ((gains.taken n).0 h) as (λ _. (r : Sort) × IsNumber (sorts_in rows) n r
+        × Takes (with_one is a b) old.sort r) [
+          | inl x ↦ let t = taken.sound n x in (t.0, t.1, takes_as_before is a b old.sort t.0 t.2)
+          | inr x ↦ let t = taken.sound to x.0 in
+              let u = all.sound n x.1 in (
+                u.0,
+                u.1,
+                takes_by_new is a b old.sort u.0
+                    (subst (λ (y : Sort). Takes is old.sort y) (one_sort (sorts_in rows) to t.0 b t.1 of_to) t.2) u.2,
+              )
+        ];
     complete = λ n r e t. elim (takes_before is a b old.sort r t) as (λ _. Contains new.taken.items n) [
       | inl x ↦ (gains.taken n).1 (inl (taken.complete n r e x))
       | inr x ↦ (gains.taken n).1 (inr (taken.complete to b of_to x.0, all.complete n r e x.1))
@@ -139,14 +154,18 @@ module _ (rows : List Row) (is : List Injection) (table : IsTable rows is) (a b 
     ];
   }
 
-  ends_gained : (i : Injection) → Contains (with_one is a b) i → HasNumber (sorts_in rows) i.from × HasNumber (sorts_in rows) i.to
+  ends_gained : (i : Injection) → Contains (with_one is a b) i
+      → HasNumber (sorts_in rows) i.from × HasNumber (sorts_in rows) i.to
   ends_gained i h =
-      elim (Contains-push_cases is (record { from = a; to = b }) i h) as (λ _. HasNumber (sorts_in rows) i.from × HasNumber (sorts_in rows) i.to) [
+      elim (Contains-push_cases is (record { from = a; to = b }) i h) as (λ _. HasNumber (sorts_in rows) i.from
+      × HasNumber (sorts_in rows) i.to) [
         | inl old ↦ table.ends i old
-        | inr e ↦ subst (λ (j : Injection). HasNumber (sorts_in rows) j.from × HasNumber (sorts_in rows) j.to) e ((from, of_from), (to, of_to))
+        | inr e ↦ subst (λ (j : Injection). HasNumber (sorts_in rows) j.from × HasNumber (sorts_in rows) j.to) e
+            ((from, of_from), (to, of_to))
       ]
 
-  pub table_gained : (new : List Row) → AllZip (Gains to gained) rows new → (HaveClash rows to gained → ⊥) → IsTable new (with_one is a b)
+  pub table_gained : (new : List Row) → AllZip (Gains to gained) rows new
+      → (HaveClash rows to gained → ⊥) → IsTable new (with_one is a b)
   table_gained new zip clear = record {
     each = λ k r e.
         let old = row_gained to gained rows new k r zip e in
@@ -155,17 +174,23 @@ module _ (rows : List Row) (is : List Injection) (table : IsTable rows is) (a b 
         let row = table.each k o old.1 in
         subst (λ (l : List Sort). IsRow (with_one is a b) l r) (sym (sorts_gained to gained rows new zip)) (record {
           arguments = subst (λ (l : List ℕ). AreNumbers (sorts_in rows) l (arguments_of r.sort)) (sym gains.arguments)
-              (subst (λ (s : Sort). AreNumbers (sorts_in rows) o.arguments.items (arguments_of s)) (sym gains.sort) row.arguments);
-          taken = subst (λ (s : Sort). AreTaken (with_one is a b) (sorts_in rows) s r.taken.items) (sym gains.sort) (taken_gained o r gains row.taken);
+              (subst (λ (s : Sort). AreNumbers (sorts_in rows) o.arguments.items (arguments_of s)) (sym gains.sort)
+              row.arguments);
+          taken = subst (λ (s : Sort). AreTaken (with_one is a b) (sorts_in rows) s r.taken.items) (sym gains.sort)
+              (taken_gained o r gains row.taken);
         });
-    once = subst (λ (l : List Sort). (j k : ℕ) (s : Sort) → IsNumber l j s → IsNumber l k s → j ≡ k) (sym (sorts_gained to gained rows new zip)) table.once;
-    ends = subst (λ (l : List Sort). (i : Injection) → Contains (with_one is a b) i → HasNumber l i.from × HasNumber l i.to) (sym (sorts_gained to gained rows new zip)) ends_gained;
+    once = subst (λ (l : List Sort). (j k : ℕ) (s : Sort) → IsNumber l j s → IsNumber l k s → j ≡ k)
+        (sym (sorts_gained to gained rows new zip)) table.once;
+    ends = subst
+        (λ (l : List Sort). (i : Injection) → Contains (with_one is a b) i → HasNumber l i.from × HasNumber l i.to)
+        (sym (sorts_gained to gained rows new zip)) ends_gained;
     agreed = still_agreed clear;
   }
 
 -- ---- one more row gains
 
-zip_push : (R : Row → Row → Type 0) (old new : List Row) (o n : Row) → AllZip R old new → R o n → AllZip R (old ++ o ∷ []) (new ++ n ∷ [])
+zip_push : (R : Row → Row → Type 0) (old new : List Row) (o n : Row) → AllZip R old new → R o n
+    → AllZip R (old ++ o ∷ []) (new ++ n ∷ [])
 zip_push R [] [] o n h r = (r, tt)
 zip_push R [] (x ∷ new) o n h r = absurd h
 zip_push R (x ∷ old) [] o n h r = absurd h
@@ -186,8 +211,10 @@ module _ (to : ℕ) (gained : List ℕ) (start now : List Row) (i : ℕ) (old ne
   pub done_more : AllZip (Gains to gained) (take (i + 1) start) (take (i + 1) (set now i new))
   done_more =
       subst (λ (l : List Row). AllZip (Gains to gained) l (take (i + 1) (set now i new)))
-      (ap (λ (r : Row). take i start ++ r ∷ []) (read ∙ first_same) ∙ sym (take_more start i old (omega (arith, below, long))))
-      (subst (λ (l : List Row). AllZip (Gains to gained) (take i start ++ old ∷ []) l) (sym (take_more_set now i new below))
+      (ap (λ (r : Row). take i start ++ r ∷ []) (read ∙ first_same)
+      ∙ sym (take_more start i old (omega (arith, below, long))))
+      (subst (λ (l : List Row). AllZip (Gains to gained) (take i start ++ old ∷ []) l)
+      (sym (take_more_set now i new below))
       (zip_push (Gains to gained) (take i start) (take i now) old new done gains))
 
   pub rest_more : drop (i + 1) (set now i new) ≡ drop (i + 1) start
@@ -200,21 +227,27 @@ gains_nothing to gained r apart = record {
   taken = λ n. (λ h. inl h, λ h. elim h as (λ _. Contains r.taken.items n) [ inl a ↦ a | inr b ↦ absurd (apart b.0) ]);
 }
 
-pub gains_all : (to : ℕ) (gained : List ℕ) (old new : Row) → new.sort ≡ old.sort → new.arguments.items ≡ old.arguments.items → Contains old.taken.items to
-    → ((n : ℕ) → Contains new.taken.items n ↔ (Contains old.taken.items n ⊎ Contains gained n)) → Gains to gained old new
+pub gains_all : (to : ℕ) (gained : List ℕ) (old new : Row)
+    → new.sort ≡ old.sort → new.arguments.items ≡ old.arguments.items → Contains old.taken.items to
+    → ((n : ℕ) → Contains new.taken.items n ↔ (Contains old.taken.items n ⊎ Contains gained n))
+    → Gains to gained old new
 gains_all to gained old new sort arguments there both = record {
   sort = sort;
   arguments = arguments;
   taken = λ n. (
-    λ h. elim ((both n).0 h) as (λ _. Contains old.taken.items n ⊎ (Contains old.taken.items to × Contains gained n)) [ inl a ↦ inl a | inr b ↦ inr (there, b) ],
+    λ h. elim ((both n).0 h) as (λ _. Contains old.taken.items n
+        ⊎ (Contains old.taken.items to × Contains gained n)) [ inl a ↦ inl a | inr b ↦ inr (there, b) ],
     λ h. elim h as (λ _. Contains new.taken.items n) [ inl a ↦ (both n).1 (inl a) | inr b ↦ (both n).1 (inr b.1) ],
   );
 }
 
 -- what the row of a sort has are all that it takes
-pub all_gained : (rows : List Row) (is : List Injection) (table : IsTable rows is) (a : Sort) (from : ℕ) (r : Row) (gained : List ℕ)
-    → IsNumber (sorts_in rows) from a → slice_get rows from ≡ Some r → gained ≡ r.taken.items → AreTaken is (sorts_in rows) a gained
+pub all_gained : (rows : List Row) (is : List Injection) (table : IsTable rows is) (a : Sort) (from : ℕ) (r : Row)
+    (gained : List ℕ)
+    → IsNumber (sorts_in rows) from a → slice_get rows from ≡ Some r
+    → gained ≡ r.taken.items → AreTaken is (sorts_in rows) a gained
 all_gained rows is table a from r gained of_from read e =
     subst (λ (l : List ℕ). AreTaken is (sorts_in rows) a l) (sym e)
-    (subst (λ (s : Sort). AreTaken is (sorts_in rows) s r.taken.items) (one_sort (sorts_in rows) from r.sort a (number_of_row rows from r read) of_from)
+    (subst (λ (s : Sort). AreTaken is (sorts_in rows) s r.taken.items)
+    (one_sort (sorts_in rows) from r.sort a (number_of_row rows from r read) of_from)
     (table.each from r read).taken)

@@ -43,11 +43,14 @@ module _ (old others : List ℕ) (i : ℕ) (below : i < length others) where
 
   front_or_end : (n : ℕ) → Contains (take (i + 1) others) n → Contains (take i others) n ⊎ (get_or others i 0 ≡ n)
   front_or_end n h =
-      Contains-push_cases (take i others) (get_or others i 0) n (subst (λ (l : List ℕ). Contains l n) (take_more others i 0 below) h)
+      Contains-push_cases (take i others) (get_or others i 0) n
+      (subst (λ (l : List ℕ). Contains l n) (take_more others i 0 below) h)
 
-  pub was_there : (numbers : List ℕ) → Contains numbers (get_or others i 0) → AreBoth numbers old (take i others) → AreBoth numbers old (take (i + 1) others)
+  pub was_there : (numbers : List ℕ) → Contains numbers (get_or others i 0) → AreBoth numbers old (take i others)
+      → AreBoth numbers old (take (i + 1) others)
   was_there numbers there both n = (
-    λ h. elim ((both n).0 h) as (λ _. Contains old n ⊎ Contains (take (i + 1) others) n) [ inl a ↦ inl a | inr b ↦ inr (in_front n b) ],
+    λ h. elim ((both n).0 h) as (λ _. Contains old n
+        ⊎ Contains (take (i + 1) others) n) [ inl a ↦ inl a | inr b ↦ inr (in_front n b) ],
     λ h. elim h as (λ _. Contains numbers n) [
       | inl a ↦ (both n).1 (inl a)
       | inr b ↦ elim (front_or_end n b) as (λ _. Contains numbers n) [
@@ -57,17 +60,21 @@ module _ (old others : List ℕ) (i : ℕ) (below : i < length others) where
     ],
   )
 
-  pub was_added : (numbers : List ℕ) → AreBoth numbers old (take i others) → AreBoth (numbers ++ get_or others i 0 ∷ []) old (take (i + 1) others)
+  pub was_added : (numbers : List ℕ) → AreBoth numbers old (take i others)
+      → AreBoth (numbers ++ get_or others i 0 ∷ []) old (take (i + 1) others)
   was_added numbers both n = (
-    λ h. elim (Contains-push_cases numbers (get_or others i 0) n h) as (λ _. Contains old n ⊎ Contains (take (i + 1) others) n) [
-      | inl a ↦ elim ((both n).0 a) as (λ _. Contains old n ⊎ Contains (take (i + 1) others) n) [ inl b ↦ inl b | inr b ↦ inr (in_front n b) ]
-      | inr e ↦ inr (subst (λ (m : ℕ). Contains (take (i + 1) others) m) e at_end)
-    ],
+    λ h. elim (Contains-push_cases numbers (get_or others i 0) n h) as (λ _. Contains old n
+        ⊎ Contains (take (i + 1) others) n) [
+          | inl a ↦ elim ((both n).0 a) as (λ _. Contains old n
+              ⊎ Contains (take (i + 1) others) n) [ inl b ↦ inl b | inr b ↦ inr (in_front n b) ]
+          | inr e ↦ inr (subst (λ (m : ℕ). Contains (take (i + 1) others) m) e at_end)
+        ],
     λ h. elim h as (λ _. Contains (numbers ++ get_or others i 0 ∷ []) n) [
       | inl a ↦ Contains-append_left numbers (get_or others i 0 ∷ []) n ((both n).1 (inl a))
       | inr b ↦ elim (front_or_end n b) as (λ _. Contains (numbers ++ get_or others i 0 ∷ []) n) [
         | inl c ↦ Contains-append_left numbers (get_or others i 0 ∷ []) n ((both n).1 (inr c))
-        | inr e ↦ subst (λ (m : ℕ). Contains (numbers ++ get_or others i 0 ∷ []) m) e (Contains-push numbers (get_or others i 0))
+        | inr e ↦ subst (λ (m : ℕ). Contains (numbers ++ get_or others i 0 ∷ []) m) e
+            (Contains-push numbers (get_or others i 0))
       ]
     ],
   )

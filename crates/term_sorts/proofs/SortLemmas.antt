@@ -16,13 +16,16 @@ pub sorts_of-only : (ps qs : List Sort) → sorts_of ps ≡ sorts_of qs → ps �
 sorts_of-only ps qs e = sym (sort_list-sorts_of ps) ∙ ap sort_list e ∙ sort_list-sorts_of qs
 
 -- a sort of a list is no deeper than the list
-pub depths-item : (ss : List Sort) (i : ℕ) (s : Sort) → i < length ss → s ≡ get_or ss i s → depth s ≤ depths (sorts_of ss)
+pub depths-item : (ss : List Sort) (i : ℕ) (s : Sort) → i < length ss → s ≡ get_or ss i s
+    → depth s ≤ depths (sorts_of ss)
 depths-item [] i s h e = absurd (omega arith)
 depths-item (q ∷ ss) zero s h e = omega (arith, ap depth e)
-depths-item (q ∷ ss) (suc i) s h e = let below : i < length ss = omega arith in omega (arith, depths-item ss i s below e)
+depths-item (q ∷ ss) (suc i) s h e = let below : i < length ss = omega arith in
+    omega (arith, depths-item ss i s below e)
 
 pub ruleset sort_parts = (sort_list-sorts_of, sorts_of-sort_list, sorts_of-only, depths-item)
 
 -- the arguments of a sort are less deep
 pub arguments_depth : (s : Sort) (ss : List Sort) → ss ≡ arguments_of s → depths (sorts_of ss) < depth s
-arguments_depth (sort f qs) ss e = omega (arith, ap (λ (l : List Sort). depths (sorts_of l)) e, ap depths (sorts_of-sort_list qs))
+arguments_depth (sort f qs) ss e =
+    omega (arith, ap (λ (l : List Sort). depths (sorts_of l)) e, ap depths (sorts_of-sort_list qs))

@@ -19,7 +19,8 @@ number_of_row rows k r e = slice_get-map (λ (r : Row). r.sort) rows k ∙ ap (�
 pub one_sort : (sorts : List Sort) (n : ℕ) (p q : Sort) → IsNumber sorts n p → IsNumber sorts n q → p ≡ q
 one_sort sorts n p q e f = same_Some p q (sym e ∙ f)
 
-pub numbers_kept : (old new : List Sort) → ((n : ℕ) (s : Sort) → IsNumber old n s → IsNumber new n s) → (ns : List ℕ) (ss : List Sort)
+pub numbers_kept : (old new : List Sort) → ((n : ℕ) (s : Sort) → IsNumber old n s → IsNumber new n s)
+    → (ns : List ℕ) (ss : List Sort)
     → AreNumbers old ns ss → AreNumbers new ns ss
 numbers_kept old new keep [] [] h = tt
 numbers_kept old new keep [] (s ∷ ss) h = absurd h
@@ -63,7 +64,8 @@ module _ (sorts : List Sort) (is : List Injection) (x : Sort) (new : HasNumber s
 
   taken_alone : AreTaken is more x (length sorts ∷ [])
   taken_alone = record {
-    sound = λ n h. (x, subst (λ (k : ℕ). IsNumber more k x) (only_one (length sorts) n h) (last_place sorts x), takes_itself is x);
+    sound = λ n h.
+        (x, subst (λ (k : ℕ). IsNumber more k x) (only_one (length sorts) n h) (last_place sorts x), takes_itself is x);
     complete = λ n r e t. elim (last_injected is x r t) as (λ _. Contains (length sorts ∷ []) n) [
       | inl same ↦ elim (place_cases sorts x r n e) as (λ _. Contains (length sorts ∷ []) n) [
         | inl old ↦ absurd (not_new r (n, old) same)
@@ -77,21 +79,26 @@ module _ (sorts : List Sort) (is : List Injection) (x : Sort) (new : HasNumber s
     ];
   }
 
-module _ (rows : List Row) (is : List Injection) (x : Row) (table : IsTable rows is) (new : HasNumber (sorts_in rows) x.sort → ⊥) where
+module _ (rows : List Row) (is : List Injection) (x : Row) (table : IsTable rows is)
+    (new : HasNumber (sorts_in rows) x.sort → ⊥) where
   abbrev sorts : List Sort
   sorts = sorts_in rows
 
   row_kept : (k : ℕ) (r : Row) → slice_get rows k ≡ Some r → IsRow is (sorts ++ x.sort ∷ []) r
   row_kept k r e =
       let row = table.each k r e in record {
-        arguments = numbers_kept sorts (sorts ++ x.sort ∷ []) (λ n s. place_kept sorts x.sort s n) r.arguments.items (arguments_of r.sort) row.arguments;
+        arguments = numbers_kept sorts (sorts ++ x.sort ∷ []) (λ n s. place_kept sorts x.sort s n) r.arguments.items
+            (arguments_of r.sort) row.arguments;
         taken = taken_kept sorts is x.sort new table.ends r.sort r.taken.items (k, number_of_row rows k r e) row.taken;
       }
 
-  row_added : AreNumbers sorts x.arguments.items (arguments_of x.sort) → x.taken.items ≡ length rows ∷ [] → IsRow is (sorts ++ x.sort ∷ []) x
+  row_added : AreNumbers sorts x.arguments.items (arguments_of x.sort)
+      → x.taken.items ≡ length rows ∷ [] → IsRow is (sorts ++ x.sort ∷ []) x
   row_added arguments taken = record {
-    arguments = numbers_kept sorts (sorts ++ x.sort ∷ []) (λ n s. place_kept sorts x.sort s n) x.arguments.items (arguments_of x.sort) arguments;
-    taken = subst (λ (l : List ℕ). AreTaken is (sorts ++ x.sort ∷ []) x.sort l) (ap (λ (n : ℕ). n ∷ []) (length_sorts rows) ∙ sym taken)
+    arguments = numbers_kept sorts (sorts ++ x.sort ∷ []) (λ n s. place_kept sorts x.sort s n) x.arguments.items
+        (arguments_of x.sort) arguments;
+    taken = subst (λ (l : List ℕ). AreTaken is (sorts ++ x.sort ∷ []) x.sort l)
+        (ap (λ (n : ℕ). n ∷ []) (length_sorts rows) ∙ sym taken)
         (taken_alone sorts is x.sort new table.ends);
   }
 
@@ -111,14 +118,16 @@ module _ (rows : List Row) (is : List Injection) (x : Row) (table : IsTable rows
   has_kept : (s : Sort) → HasNumber sorts s → HasNumber (sorts ++ x.sort ∷ []) s
   has_kept s h = (h.0, place_kept sorts x.sort s h.0 h.1)
 
-  pub table_push : AreNumbers sorts x.arguments.items (arguments_of x.sort) → x.taken.items ≡ length rows ∷ [] → IsTable (rows ++ x ∷ []) is
+  pub table_push : AreNumbers sorts x.arguments.items (arguments_of x.sort)
+      → x.taken.items ≡ length rows ∷ [] → IsTable (rows ++ x ∷ []) is
   table_push arguments taken = record {
     each = λ k r e. subst (λ (l : List Sort). IsRow is l r) (sym (sorts_push rows x))
         (elim (place_cases rows x r k e) as (λ _. IsRow is (sorts ++ x.sort ∷ []) r) [
           | inl old ↦ row_kept k r old
           | inr last ↦ subst (λ (y : Row). IsRow is (sorts ++ x.sort ∷ []) y) (sym last.1) (row_added arguments taken)
         ]);
-    once = subst (λ (l : List Sort). (j k : ℕ) (s : Sort) → IsNumber l j s → IsNumber l k s → j ≡ k) (sym (sorts_push rows x)) once_kept;
+    once = subst (λ (l : List Sort). (j k : ℕ) (s : Sort) → IsNumber l j s → IsNumber l k s → j ≡ k)
+        (sym (sorts_push rows x)) once_kept;
     ends = λ i h. subst (λ (l : List Sort). HasNumber l i.from × HasNumber l i.to) (sym (sorts_push rows x))
         (has_kept i.from (table.ends i h).0, has_kept i.to (table.ends i h).1);
     agreed = table.agreed;
@@ -135,16 +144,19 @@ pub number_below : (rows : List Row) (n : ℕ) (s : Sort) → IsNumber (sorts_in
 number_below rows n s e = omega (arith, slice_get_within (sorts_in rows) n s e, length_sorts rows)
 
 pub extends_push : (rows : List Row) (is : List Injection) (x : Row)
-    → Extends (record { sorts = sorts_in rows; injections = is }) (record { sorts = sorts_in (rows ++ x ∷ []); injections = is })
+    → Extends (record { sorts = sorts_in rows; injections = is })
+    (record { sorts = sorts_in (rows ++ x ∷ []); injections = is })
 extends_push rows is x = record {
   injections = refl;
-  numbers = λ n s e. subst (λ (l : List Sort). IsNumber l n s) (sym (sorts_push rows x)) (place_kept (sorts_in rows) x.sort s n e);
+  numbers = λ n s e.
+      subst (λ (l : List Sort). IsNumber l n s) (sym (sorts_push rows x)) (place_kept (sorts_in rows) x.sort s n e);
 }
 
 pub number_pushed : (rows : List Row) (x : Row) → IsNumber (sorts_in (rows ++ x ∷ [])) (length rows) x.sort
 number_pushed rows x =
     subst (λ (l : List Sort). IsNumber l (length rows) x.sort) (sym (sorts_push rows x))
-    (subst (λ (n : ℕ). IsNumber (sorts_in rows ++ x.sort ∷ []) n x.sort) (length_sorts rows) (last_place (sorts_in rows) x.sort))
+    (subst (λ (n : ℕ). IsNumber (sorts_in rows ++ x.sort ∷ []) n x.sort) (length_sorts rows)
+    (last_place (sorts_in rows) x.sort))
 
 pub extends_on : (a b c : Table) → Extends a b → Extends b c → Extends a c
 extends_on a b c x y = record {
@@ -152,10 +164,12 @@ extends_on a b c x y = record {
   numbers = λ n s e. y.numbers n s (x.numbers n s e);
 }
 
-pub numbers_extend : (a b : Table) → Extends a b → (ns : List ℕ) (ss : List Sort) → AreNumbers a.sorts ns ss → AreNumbers b.sorts ns ss
+pub numbers_extend : (a b : Table) → Extends a b → (ns : List ℕ) (ss : List Sort) → AreNumbers a.sorts ns ss
+    → AreNumbers b.sorts ns ss
 numbers_extend a b x ns ss h = numbers_kept a.sorts b.sorts x.numbers ns ss h
 
-numbers_push : (sorts : List Sort) (ns : List ℕ) (ss : List Sort) (n : ℕ) (s : Sort) → AreNumbers sorts ns ss → IsNumber sorts n s
+numbers_push : (sorts : List Sort) (ns : List ℕ) (ss : List Sort) (n : ℕ) (s : Sort) → AreNumbers sorts ns ss
+    → IsNumber sorts n s
     → AreNumbers sorts (ns ++ n ∷ []) (ss ++ s ∷ [])
 numbers_push all [] [] n s h e = (e, tt)
 numbers_push all [] (q ∷ ss) n s h e = absurd h
@@ -163,8 +177,10 @@ numbers_push all (k ∷ ns) [] n s h e = absurd h
 numbers_push all (k ∷ ns) (q ∷ ss) n s h e = (h.0, numbers_push all ns ss n s h.1 e)
 
 -- the number of one more sort is pushed
-pub numbers_more : (sorts : List Sort) (ns : List ℕ) (ss : List Sort) (i n : ℕ) (s : Sort) → i < length ss → s ≡ get_or ss i s
+pub numbers_more : (sorts : List Sort) (ns : List ℕ) (ss : List Sort) (i n : ℕ) (s : Sort) → i < length ss
+    → s ≡ get_or ss i s
     → AreNumbers sorts ns (take i ss) → IsNumber sorts n s → AreNumbers sorts (ns ++ n ∷ []) (take (i + 1) ss)
 numbers_more all ns ss i n s below is h e =
-    subst (λ (l : List Sort). AreNumbers all (ns ++ n ∷ []) l) (sym (take_more ss i s below ∙ ap (λ (x : Sort). take i ss ++ x ∷ []) (sym is)))
+    subst (λ (l : List Sort). AreNumbers all (ns ++ n ∷ []) l)
+    (sym (take_more ss i s below ∙ ap (λ (x : Sort). take i ss ++ x ∷ []) (sym is)))
     (numbers_push all ns (take i ss) n s h e)

@@ -35,14 +35,17 @@ nothing_taken s r t = nothing_leads s r t.0 t.1
 
 -- ---- the ends of a chain
 
-first_of : (is : List Injection) (s r : Sort) (way : List Sort) → Lead is r way s → (r ≡ s) ⊎ ((i : Injection) × Contains is i × (i.from ≡ r))
+first_of : (is : List Injection) (s r : Sort) (way : List Sort) → Lead is r way s
+    → (r ≡ s) ⊎ ((i : Injection) × Contains is i × (i.from ≡ r))
 first_of is s r [] e = inl e
 first_of is s r (q ∷ way) l = inr (record { from = r; to = q }, l.0, refl)
 
-pub first_injected : (is : List Injection) (s r : Sort) → Takes is s r → (r ≡ s) ⊎ ((i : Injection) × Contains is i × (i.from ≡ r))
+pub first_injected : (is : List Injection) (s r : Sort) → Takes is s r
+    → (r ≡ s) ⊎ ((i : Injection) × Contains is i × (i.from ≡ r))
 first_injected is s r t = first_of is s r t.0 t.1
 
-last_of : (is : List Injection) (s r : Sort) (way : List Sort) → Lead is r way s → (r ≡ s) ⊎ ((i : Injection) × Contains is i × (i.to ≡ s))
+last_of : (is : List Injection) (s r : Sort) (way : List Sort) → Lead is r way s
+    → (r ≡ s) ⊎ ((i : Injection) × Contains is i × (i.to ≡ s))
 last_of is s r [] e = inl e
 last_of is s r (q ∷ way) l =
     elim (last_of is s q way l.1) as (λ _. (r ≡ s) ⊎ ((i : Injection) × Contains is i × (i.to ≡ s))) [
@@ -50,7 +53,8 @@ last_of is s r (q ∷ way) l =
       | inr i ↦ inr i
     ]
 
-pub last_injected : (is : List Injection) (s r : Sort) → Takes is s r → (r ≡ s) ⊎ ((i : Injection) × Contains is i × (i.to ≡ s))
+pub last_injected : (is : List Injection) (s r : Sort) → Takes is s r
+    → (r ≡ s) ⊎ ((i : Injection) × Contains is i × (i.to ≡ s))
 last_injected is s r t = last_of is s r t.0 t.1
 
 -- ---- one more injection, of a into b
@@ -68,7 +72,8 @@ module _ (is : List Injection) (a b : Sort) where
   pub takes_by_new : (s r : Sort) → Takes is s b → Takes is a r → Takes with_one s r
   takes_by_new s r t u =
       takes_on with_one s b r (takes_as_before s b t)
-      (takes_on with_one b a r (takes_injected with_one a b (Contains-push is (record { from = a; to = b }))) (takes_as_before a r u))
+      (takes_on with_one b a r (takes_injected with_one a b (Contains-push is (record { from = a; to = b })))
+      (takes_as_before a r u))
 
   abbrev Before : Sort → Sort → Type 0
   Before s r = Takes is s r ⊎ (Takes is s b × Takes is a r)
@@ -76,13 +81,17 @@ module _ (is : List Injection) (a b : Sort) where
   lead_before : (s r : Sort) (way : List Sort) → Lead with_one r way s → Before s r
   lead_before s r [] e = inl ([], e)
   lead_before s r (q ∷ way) l =
-      elim (Contains-push_cases is (record { from = a; to = b }) (record { from = r; to = q }) l.0) as (λ _. Before s r) [
+      elim (Contains-push_cases is (record { from = a; to = b }) (record { from = r; to = q }) l.0) as (λ _.
+      Before s r) [
         | inl old ↦ elim (lead_before s q way l.1) as (λ _. Before s r) [
           | inl t ↦ inl (q ∷ t.0, (old, t.1))
           | inr t ↦ inr (t.0, (q ∷ t.1.0, (old, t.1.1)))
         ]
         | inr e ↦ elim (lead_before s q way l.1) as (λ _. Before s r) [
-          | inl t ↦ inr (subst (λ (x : Sort). Takes is s x) (sym (ap (λ (i : Injection). i.to) e)) t, ([], sym (ap (λ (i : Injection). i.from) e)))
+          | inl t ↦ inr (
+            subst (λ (x : Sort). Takes is s x) (sym (ap (λ (i : Injection). i.to) e)) t,
+            ([], sym (ap (λ (i : Injection). i.from) e)),
+          )
           | inr t ↦ inr (t.0, ([], sym (ap (λ (i : Injection). i.from) e)))
         ]
       ]

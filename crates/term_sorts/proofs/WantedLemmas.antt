@@ -19,10 +19,12 @@ use Rattle.term_sorts.proofs.ListLemmas.{value_at}
 use Rattle.term_sorts.proofs.TableLemmas.{number_of_row, one_sort}
 
 -- the row at a number is that of the sort which the number stands for
-pub is_row_of : (rows : List Row) (is : List Injection) (table : IsTable rows is) (n : ℕ) (w : Wanted) (found : Option (Bor Row)) → w.number ≡ Some n
+pub is_row_of : (rows : List Row) (is : List Injection) (table : IsTable rows is) (n : ℕ) (w : Wanted)
+    (found : Option (Bor Row)) → w.number ≡ Some n
     → option_copied found ≡ slice_get rows n → IsRowOf (record { sorts = sorts_in rows; injections = is }) w found
 is_row_of rows is table n w None e f =
-    ap (λ o. option_and_then (λ k. slice_get (sorts_in rows) k) o) e ∙ slice_get-map (λ (r : Row). r.sort) rows n ∙ ap (λ o. option_map (λ (r : Row). r.sort) o) (sym f)
+    ap (λ o. option_and_then (λ k. slice_get (sorts_in rows) k) o) e ∙ slice_get-map (λ (r : Row). r.sort) rows n
+    ∙ ap (λ o. option_map (λ (r : Row). r.sort) o) (sym f)
 is_row_of rows is table n w (Some row) e f = (
   ap (λ o. option_and_then (λ k. slice_get (sorts_in rows) k) o) e ∙ number_of_row rows n row.now (sym f),
   table.each n row.now (sym f),
@@ -38,7 +40,8 @@ module _ (is : List Injection) (sorts : List Sort) (row : Row) (right : IsRow is
   taken_sort n r h e =
       let t = right.taken.sound n h in subst (λ (x : Sort). Takes is s x) (one_sort sorts n t.0 r t.1 e) t.2
 
-  pub takes_is : (w : Wanted) → wanted_sort sorts w ≡ Some s → (answer : Bool) (n : ℕ) → IsTrue answer ↔ Contains row.taken.items n → (r : Sort) → IsNumber sorts n r
+  pub takes_is : (w : Wanted) → wanted_sort sorts w ≡ Some s → (answer : Bool) (n : ℕ)
+      → IsTrue answer ↔ Contains row.taken.items n → (r : Sort) → IsNumber sorts n r
       → IsTrue answer ↔ Allows is (wanted_sort sorts w) r
   takes_is w same answer n says r e = (
     λ h. subst (λ (o : Option Sort). Allows is o r) (sym same) (taken_sort n r (says.0 h) e),
@@ -46,17 +49,21 @@ module _ (is : List Injection) (sorts : List Sort) (row : Row) (right : IsRow is
   )
 
   module _ (agreed : TakeNoneAlike is) where
-    pub elements_are : (w : Wanted) → wanted_sort sorts w ≡ Some s → (n : ℕ) (found : Wanted) → Contains row.taken.items n
-        → IsNumber sorts n (list_sort (wanted_sort sorts found)) → ElementsAre is sorts (wanted_sort sorts w) (Some found)
+    pub elements_are : (w : Wanted) → wanted_sort sorts w ≡ Some s → (n : ℕ) (found : Wanted)
+        → Contains row.taken.items n
+        → IsNumber sorts n (list_sort (wanted_sort sorts found))
+        → ElementsAre is sorts (wanted_sort sorts w) (Some found)
     elements_are w same n found h e =
         let all = wanted_sort sorts found in
         let t = taken_sort n (list_sort all) h e in
         subst (λ (o : Option Sort). ElementsAre is sorts o (Some found)) (sym same) (λ element. (
-          λ u. same_element element all (agreed s (list_sort element) (list_sort all) u t (inl ((element, refl), (all, refl)))),
+          λ u. same_element element all
+              (agreed s (list_sort element) (list_sort all) u t (inl ((element, refl), (all, refl)))),
           λ q. subst (λ (o : Option Sort). Takes is s (list_sort o)) (sym q) t,
         ))
 
-    pub parts_are : (w : Wanted) → wanted_sort sorts w ≡ Some s → (n count : ℕ) (found : Bor (List ℕ)) → Contains row.taken.items n
+    pub parts_are : (w : Wanted) → wanted_sort sorts w ≡ Some s → (n count : ℕ) (found : Bor (List ℕ))
+        → Contains row.taken.items n
         → ArePartsOf sorts n count found.now → PartsWanted is sorts (wanted_sort sorts w) count (Of found)
     parts_are w same n count found h e =
         let all = e.0 in
@@ -66,32 +73,37 @@ module _ (is : List Injection) (sorts : List Sort) (row : Row) (right : IsRow is
           e.1,
           e.2,
           λ parts l. (
-            λ u. same_parts parts all (agreed s (tuple_sort parts) (tuple_sort all) u t (inr (count, (parts, refl, l), (all, refl, e.2)))),
+            λ u. same_parts parts all
+                (agreed s (tuple_sort parts) (tuple_sort all) u t (inr (count, (parts, refl, l), (all, refl, e.2)))),
             λ q. subst (λ (ps : List Sort). Takes is s (tuple_sort ps)) (sym q) t,
           ),
         )
 
-  known_place : (r : Sort) → Takes is s r → (k : ℕ) × (k < length row.taken.items) × IsNumber sorts (get_or row.taken.items k 0) r
+  known_place : (r : Sort) → Takes is s r
+      → (k : ℕ) × (k < length row.taken.items) × IsNumber sorts (get_or row.taken.items k 0) r
   known_place r t =
       let n = right.taken.known r t in
       let v = value_at row.taken.items n.0 (right.taken.complete n.0 r n.1 t) in
       (v.0, v.1, subst (λ (k : ℕ). IsNumber sorts k r) (sym v.2) n.1)
 
   pub no_elements : (w : Wanted) → wanted_sort sorts w ≡ Some s
-      → ((k : ℕ) → k < length row.taken.items → (element : Option Sort) → IsNumber sorts (get_or row.taken.items k 0) (list_sort element) → ⊥)
+      → ((k : ℕ) → k < length row.taken.items → (element : Option Sort)
+      → IsNumber sorts (get_or row.taken.items k 0) (list_sort element) → ⊥)
       → ElementsAre is sorts (wanted_sort sorts w) None
   no_elements w same clear =
       subst (λ (o : Option Sort). ElementsAre is sorts o None) (sym same)
       (λ element t. let p = known_place (list_sort element) t in clear p.0 p.1 element p.2)
 
   pub no_parts : (w : Wanted) → wanted_sort sorts w ≡ Some s → (count : ℕ)
-      → ((k : ℕ) → k < length row.taken.items → (parts : List Sort) → length parts ≡ count → IsNumber sorts (get_or row.taken.items k 0) (tuple_sort parts) → ⊥)
+      → ((k : ℕ) → k < length row.taken.items → (parts : List Sort)
+      → length parts ≡ count → IsNumber sorts (get_or row.taken.items k 0) (tuple_sort parts) → ⊥)
       → PartsWanted is sorts (wanted_sort sorts w) count Refused
   no_parts w same count clear =
       subst (λ (o : Option Sort). PartsWanted is sorts o count Refused) (sym same)
       (λ parts l t. let p = known_place (tuple_sort parts) t in clear p.0 p.1 parts l p.2)
 
-  pub row_parts : s ≡ tuple_sort (arguments_of s) → (n : ℕ) → IsNumber sorts n s → (numbers : List ℕ) (count : ℕ) → numbers ≡ row.arguments.items → length numbers ≡ count
+  pub row_parts : s ≡ tuple_sort (arguments_of s) → (n : ℕ) → IsNumber sorts n s → (numbers : List ℕ) (count : ℕ)
+      → numbers ≡ row.arguments.items → length numbers ≡ count
       → ArePartsOf sorts n count numbers
   row_parts e n is_s numbers count same l = (
     arguments_of s,
@@ -103,4 +115,5 @@ module _ (is : List Injection) (sorts : List Sort) (row : Row) (right : IsRow is
   -- a row of a tuple sort of so many has as many arguments
   pub parts_long : (parts : List Sort) → s ≡ tuple_sort parts → length row.arguments.items ≡ length parts
   parts_long parts e =
-      sym (AllZip-long (IsNumber sorts) row.arguments.items (arguments_of s) right.arguments) ∙ ap (λ (x : Sort). length (arguments_of x)) e ∙ ap length (parts_again parts)
+      sym (AllZip-long (IsNumber sorts) row.arguments.items (arguments_of s) right.arguments)
+      ∙ ap (λ (x : Sort). length (arguments_of x)) e ∙ ap length (parts_again parts)

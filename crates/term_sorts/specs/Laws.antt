@@ -17,7 +17,8 @@ FreeListsAndTuples =
 -- that is what the place wants. So only replaced places need a look.
 abbrev pub ReplacedPlacesDecide : Type 0
 ReplacedPlacesDecide =
-    (D : Declared) → AreAgreed D → (wanted : Option Sort) (t u : Tree) (path : List ℕ) → Conforms D wanted t → IsSome (at t path)
+    (D : Declared) → AreAgreed D → (wanted : Option Sort) (t u : Tree) (path : List ℕ) → Conforms D wanted t
+    → IsSome (at t path)
     → (there : Option Sort) × WantsAt D wanted t path there × (Conforms D wanted (set_at t path u) ↔ Conforms D there u)
 
 -- More declarations leave a term what it is.

@@ -163,7 +163,8 @@ FromOutside R (Some s) inside = R s inside
 abbrev pub WantsInside : Declared → Option Sort → Tree → ℕ → Option Sort → Type 0
 WantsInside D wanted (integer z notes) i inside = ⊥
 WantsInside D wanted (branch (application f) kids notes) i inside =
-    Any (λ d. (d.name ≡ f) × (length d.arguments ≡ length (to_list kids)) × (inside ≡ slice_get d.arguments i)) D.constructors
+    Any (λ d. (d.name ≡ f) × (length d.arguments ≡ length (to_list kids)) × (inside ≡ slice_get d.arguments i))
+    D.constructors
 WantsInside D wanted (branch list kids notes) i inside =
     FromOutside (λ s element. Takes D.injections s (list_sort element)) wanted inside
 WantsInside D wanted (branch tuple kids notes) i inside =

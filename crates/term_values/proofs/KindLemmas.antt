@@ -32,13 +32,15 @@ pub annotations-top_tree : (n : Top) (us notes : List Tree) → annotations (top
 annotations-top_tree (Borrowed k) us notes = annotations-made_of k us notes
 annotations-top_tree (Owned name) us notes = to_list-of_list notes
 
-with_children-made_of : (k : Kind) (us notes vs : List Tree) → with_children (made_of k us notes) vs ≡ made_of k vs notes
+with_children-made_of : (k : Kind) (us notes vs : List Tree)
+    → with_children (made_of k us notes) vs ≡ made_of k vs notes
 with_children-made_of (Integer z) us notes vs = refl
 with_children-made_of (Application name) us notes vs = refl
 with_children-made_of AList us notes vs = refl
 with_children-made_of Tuple us notes vs = refl
 
-with_annotations-made_of : (k : Kind) (us notes ns : List Tree) → with_annotations (made_of k us notes) ns ≡ made_of k us ns
+with_annotations-made_of : (k : Kind) (us notes ns : List Tree)
+    → with_annotations (made_of k us notes) ns ≡ made_of k us ns
 with_annotations-made_of (Integer z) us notes ns = refl
 with_annotations-made_of (Application name) us notes ns = refl
 with_annotations-made_of AList us notes ns = refl
@@ -52,7 +54,8 @@ pub annotations-with_annotations : (t : Tree) (ns : List Tree) → annotations (
 annotations-with_annotations (integer z notes) ns = to_list-of_list ns
 annotations-with_annotations (branch head kids notes) ns = to_list-of_list ns
 
-pub with_annotations-again : (t : Tree) (ns ms : List Tree) → with_annotations (with_annotations t ns) ms ≡ with_annotations t ms
+pub with_annotations-again : (t : Tree) (ns ms : List Tree)
+    → with_annotations (with_annotations t ns) ms ≡ with_annotations t ms
 with_annotations-again (integer z notes) ns ms = refl
 with_annotations-again (branch head kids notes) ns ms = refl
 
@@ -67,7 +70,8 @@ IsOfKind k t = t ≡ made_of k (children t) (annotations t)
 
 pub kind-made_of : (k : Kind) (us notes : List Tree) → IsOfKind k (made_of k us notes)
 kind-made_of (Integer z) us notes = λ i. integer z (sym (of_list-to_list (of_list notes)) i)
-kind-made_of (Application name) us notes = λ i. made_of (Application name) (sym (to_list-of_list us) i) (sym (to_list-of_list notes) i)
+kind-made_of (Application name) us notes =
+    λ i. made_of (Application name) (sym (to_list-of_list us) i) (sym (to_list-of_list notes) i)
 kind-made_of AList us notes = λ i. made_of AList (sym (to_list-of_list us) i) (sym (to_list-of_list notes) i)
 kind-made_of Tuple us notes = λ i. made_of Tuple (sym (to_list-of_list us) i) (sym (to_list-of_list notes) i)
 
@@ -92,4 +96,13 @@ kind-after k t x e h =
 pub kind_along : (k : Kind) (t u : Tree) → t ≡ u → IsOfKind k t → IsOfKind k u
 kind_along k t u e h = subst (λ (x : Tree). IsOfKind k x) e h
 
-pub ruleset node_parts = (to_list-of_list, of_list-to_list, children-made_of, annotations-made_of, children-top_tree, annotations-top_tree, children-with_annotations, annotations-with_annotations)
+pub ruleset node_parts = (
+  to_list-of_list,
+  of_list-to_list,
+  children-made_of,
+  annotations-made_of,
+  children-top_tree,
+  annotations-top_tree,
+  children-with_annotations,
+  annotations-with_annotations,
+)

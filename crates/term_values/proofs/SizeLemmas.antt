@@ -19,7 +19,8 @@ height_parts (integer z notes) = omega (arith, ap heights (of_list-to_list notes
 height_parts (branch head kids notes) =
     omega (arith, ap heights (of_list-to_list kids), ap heights (of_list-to_list notes))
 
-pub heights-append : (us vs : List Tree) → heights (of_list (us ++ vs)) ≡ max (heights (of_list us)) (heights (of_list vs))
+pub heights-append : (us vs : List Tree)
+    → heights (of_list (us ++ vs)) ≡ max (heights (of_list us)) (heights (of_list vs))
 heights-append [] vs = omega arith
 heights-append (u ∷ us) vs = omega (arith, heights-append us vs)
 
@@ -46,7 +47,8 @@ member_size us vs all v e =
 pub bounded_along : (t u : Tree) (b : Bounds) → t ≡ u → Bounded t b → Bounded u b
 bounded_along t u b e h = subst (λ (x : Tree). Bounded x b) e h
 
-pub got_within : (us : List Tree) (b : Bounds) (i : ℕ) (v : Tree) → slice_get us i ≡ Some v → AllWithin us b → Bounded v b
+pub got_within : (us : List Tree) (b : Bounds) (i : ℕ) (v : Tree) → slice_get us i ≡ Some v → AllWithin us b
+    → Bounded v b
 got_within [] b i v e h = absurd (cc)
 got_within (u ∷ us) b zero v e h = let same : u ≡ v = cc in bounded_along u v b same h.0
 got_within (u ∷ us) b (suc i) v e h = got_within us b i v e h.1
@@ -58,12 +60,14 @@ pub all_bounded_more : (us : List Tree) (v : Tree) (b : Bounds)
     → Covers (sizes (of_list us) + size v) (max (heights (of_list us)) (height v)) b → AllBounded (us ++ v ∷ []) b
 all_bounded_more us v b h =
     let s : sizes (of_list us) + size v ≡ sizes (of_list (us ++ v ∷ [])) = omega (arith, sizes-append us (v ∷ [])) in
-    let k : max (heights (of_list us)) (height v) ≡ heights (of_list (us ++ v ∷ [])) = omega (arith, heights-append us (v ∷ [])) in
+    let k : max (heights (of_list us)) (height v) ≡ heights (of_list (us ++ v ∷ [])) =
+    omega (arith, heights-append us (v ∷ [])) in
     covers_along _ _ _ _ b s k h
 
 -- a node over its children and annotations
 pub node_bounded : (t : Tree) (us ns : List Tree) (b : Bounds) → us ≡ children t → ns ≡ annotations t
-    → Covers (sizes (of_list us) + sizes (of_list ns) + 1) (max (heights (of_list us)) (heights (of_list ns)) + 1) b → Bounded t b
+    → Covers (sizes (of_list us) + sizes (of_list ns) + 1) (max (heights (of_list us)) (heights (of_list ns)) + 1) b
+    → Bounded t b
 node_bounded t us ns b e f h =
     let s : sizes (of_list us) + sizes (of_list ns) + 1 ≡ size t =
     omega (arith, size_parts t, ap (λ l. sizes (of_list l)) e, ap (λ l. sizes (of_list l)) f) in
@@ -82,7 +86,8 @@ bare_bounded t us b e f h =
     node_bounded t us [] b e (sym (nothing (annotations t) f)) (covers_along _ _ _ _ b (omega arith) (omega arith) h)
 
 -- a node without children and annotations
-pub leaf_bounded : (t : Tree) (b : Bounds) → length (children t) ≡ 0 → length (annotations t) ≡ 0 → Covers 1 1 b → Bounded t b
+pub leaf_bounded : (t : Tree) (b : Bounds) → length (children t) ≡ 0 → length (annotations t) ≡ 0 → Covers 1 1 b
+    → Bounded t b
 leaf_bounded t b e f h = node_bounded t [] [] b (sym (nothing (children t) e)) (sym (nothing (annotations t) f)) h
 
 -- ---- new nodes
@@ -112,12 +117,14 @@ joined_bounded us t b e h =
     omega (arith, ap height e, heights-append us (children t)) in
     covers_along _ _ _ _ b s k h
 
-height_annotated : (t : Tree) (ns : List Tree) → height (with_annotations t ns) ≡ max (heights (of_list (children t))) (heights (of_list ns)) + 1
+height_annotated : (t : Tree) (ns : List Tree)
+    → height (with_annotations t ns) ≡ max (heights (of_list (children t))) (heights (of_list ns)) + 1
 height_annotated (integer z notes) ns = omega arith
 height_annotated (branch head kids notes) ns = omega (arith, ap heights (of_list-to_list kids))
 
 pub annotated_bounded : (t : Tree) (ns : List Tree) (b : Bounds) → annotations t ≡ []
-    → Covers (sizes (of_list ns) + size t) (max (heights (of_list ns) + 1) (height t)) b → Bounded (with_annotations t ns) b
+    → Covers (sizes (of_list ns) + size t) (max (heights (of_list ns) + 1) (height t)) b
+    → Bounded (with_annotations t ns) b
 annotated_bounded t ns b e h =
     let s : sizes (of_list ns) + size t ≡ size (with_annotations t ns) =
     omega (arith, size_annotated t ns, size_parts t, ap (λ l. sizes (of_list l)) e) in

@@ -16,7 +16,8 @@ AreIn tree (slot_text slot x ∷ es) = ⊥
 
 -- the line of an entry for a subterm, in the tree as it is now
 abbrev pub entry_line : Tree → Entry → List ℕ
-entry_line tree (subterm slot path t) = option_map_or (λ old. replacement_line (record { path = path; old = old; new = t })) (at tree path) []
+entry_line tree (subterm slot path t) =
+    option_map_or (λ old. replacement_line (record { path = path; old = old; new = t })) (at tree path) []
 entry_line tree (slot_tree slot t) = []
 entry_line tree (subterm_annotations slot path ts) = []
 entry_line tree (slot_text slot x) = []

@@ -95,6 +95,7 @@ TurnRight Rule (Err Read) old new h g a b most =
 TurnRight Rule (Err Write) old new h g a b most =
     (b.write_failures ≡ a.write_failures + 1) × (b.read_failures ≡ a.read_failures)
     × ((bytes : List ℕ) × Consumes a.left b.left bytes
-    × (Breaks Rule completed old h g a.held b.held bytes ⊎ (IsAtEnd b.left × Breaks Rule handed old h g a.held b.held bytes)))
+    × (Breaks Rule completed old h g a.held b.held bytes
+    ⊎ (IsAtEnd b.left × Breaks Rule handed old h g a.held b.held bytes)))
 TurnRight Rule (Err Turns) old new h g a b most = ⊥
 TurnRight Rule (Err Memory) old new h g a b most = ⊥

@@ -17,7 +17,8 @@ entry_lines s name (slot_tree i old) = tree_lines name old (content s.trees i)
 entry_lines s name (subterm i path old) =
     option_map_or (λ new. map (difference_line name) (differences path old new)) (subterm_in s.trees i path) []
 entry_lines s name (subterm_annotations i path old) =
-    option_map_or (λ new. map (difference_line name) (annotated path (of_list old) (of_list (annotations new)))) (subterm_in s.trees i path) []
+    option_map_or (λ new. map (difference_line name) (annotated path (of_list old) (of_list (annotations new))))
+    (subterm_in s.trees i path) []
 entry_lines s name (slot_text i old) = text_lines name old (content s.modules i)
 
 -- the lines of the changes from before a log

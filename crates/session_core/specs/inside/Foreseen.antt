@@ -18,7 +18,8 @@ use Rattle.session_modules.specs.declared.refusal.Refusal.{Refusal}
 
 -- The slot's tree has a subterm at the path, and a run on it replaces places by these entries in so many
 -- steps.
-pub record Foresees (W : World) (s : Store) (slot : ℕ) (path : List ℕ) (r : Resolved) (b : ℕ) (entries : List Entry) (taken : ℕ) : Type 0 where
+pub record Foresees (W : World) (s : Store) (slot : ℕ) (path : List ℕ) (r : Resolved) (b : ℕ) (entries : List Entry)
+    (taken : ℕ) : Type 0 where
   pub part : Tree
   pub there : subterm_in s.trees slot path ≡ Some part
   pub places : Edits
@@ -27,16 +28,19 @@ pub record Foresees (W : World) (s : Store) (slot : ℕ) (path : List ℕ) (r : 
 
 -- The text is resolved to a strategy for the slot of the name's tree, and a run of it on the subterm at
 -- the path replaces places by these entries in so many steps.
-pub record PlansTo (meaning : Meaning) (ps : List Signature) (t : Logged) (name path text : List ℕ) (b slot : ℕ) (entries : List Entry) (taken : ℕ) : Type 0 where
+pub record PlansTo (meaning : Meaning) (ps : List Signature) (t : Logged) (name path text : List ℕ) (b slot : ℕ)
+    (entries : List Entry) (taken : ℕ) : Type 0 where
   pub program : Program
   pub whole : Resolved
   pub resolves : ResolvesTo ps t name path text (Some program) slot whole
   pub foresees : Foresees (world_in meaning program ps t.limits.max_terms) t.store slot path whole b entries taken
 
 -- Its run gives no tree, and this is why.
-pub record PlansNothing (meaning : Meaning) (ps : List Signature) (t : Logged) (name path text : List ℕ) (b : ℕ) (refusal : Refusal) : Type 0 where
+pub record PlansNothing (meaning : Meaning) (ps : List Signature) (t : Logged) (name path text : List ℕ) (b : ℕ)
+    (refusal : Refusal) : Type 0 where
   pub program : Program
   pub whole : Resolved
   pub slot : ℕ
   pub resolves : ResolvesTo ps t name path text (Some program) slot whole
-  pub ends : given_by (applied_in (world_in meaning program ps t.limits.max_terms) t.store.trees slot path whole b) ≡ Err refusal
+  pub ends : given_by (applied_in (world_in meaning program ps t.limits.max_terms) t.store.trees slot path whole b)
+      ≡ Err refusal

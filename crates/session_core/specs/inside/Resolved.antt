@@ -20,7 +20,8 @@ use Rattle.strategy_run.specs.declared.ended.Ended.TheVariants.{Done, Failed, Sp
 
 -- The name's tree is in the slot and has a subterm at the path, and the text is resolved to this
 -- strategy in the program of the modules, which is cached.
-pub record ResolvesTo (ps : List Signature) (t : Logged) (name path text : List ℕ) (cached : Option Program) (slot : ℕ) (whole : Resolved) : Type 0 where
+pub record ResolvesTo (ps : List Signature) (t : Logged) (name path text : List ℕ) (cached : Option Program) (slot : ℕ)
+    (whole : Resolved) : Type 0 where
   pub there : IsPlaceOf t.store name path slot
   pub strategy : Strategy
   pub reads : ReadsAsStrategy text (Ok strategy)

@@ -37,7 +37,8 @@ history_code =
     (coded× (coded× (coded× (coded_list contents_code) (coded_list contents_code)) contents_code)
     (coded× (coded_list signature_code) (coded× limits_code (coded_option group_code))))
     (λ h. (((h.past, h.later), h.now), (h.primitives, (h.limits, h.group))))
-    (λ p. record { primitives = p.1.0; limits = p.1.1.0; past = p.0.0.0; now = p.0.1; later = p.0.0.1; group = p.1.1.1 })
+    (λ p.
+    record { primitives = p.1.0; limits = p.1.1.0; past = p.0.0.0; now = p.0.1; later = p.0.0.1; group = p.1.1.1 })
     (λ _. refl)
 
 abbrev pub open_group_code : Coded OpenGroup
@@ -53,5 +54,6 @@ logged_code =
     (coded× (coded× store_code (coded_list (coded_list entry_code)))
     (coded× coded_ℕ (coded× (coded_option open_group_code) (coded× (coded_list entry_code) limits_code))))
     (λ t. ((t.store, t.logs), (t.position, (t.group, (t.current, t.limits)))))
-    (λ p. record { store = p.0.0; logs = p.0.1; position = p.1.0; group = p.1.1.0; current = p.1.1.1.0; limits = p.1.1.1.1 })
+    (λ p.
+    record { store = p.0.0; logs = p.0.1; position = p.1.0; group = p.1.1.0; current = p.1.1.1.0; limits = p.1.1.1.1 })
     (λ _. refl)

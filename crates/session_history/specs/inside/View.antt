@@ -4,4 +4,11 @@ use Rattle.session_history.specs.declared.timeline.Timeline.TheInside.{Inside}
 
 abbrev pub logged : Inside → Logged
 logged a =
-    record { store = a.store; logs = a.logs.items; position = a.position; group = a.group; current = a.current; limits = a.limits }
+    record {
+      store = a.store;
+      logs = a.logs.items;
+      position = a.position;
+      group = a.group;
+      current = a.current;
+      limits = a.limits;
+    }

@@ -63,7 +63,8 @@ abbrev mutual
   mentioned_in_strategy names M (scope xs s) = mentioned_in_strategy names M s
   mentioned_in_strategy names M (uses f ss ps) =
       mentioned_in_patterns (mentioned_in_strategies names
-      (mentioned_by_name M (is_some (binder_number f names)) f (length (strategy_list ss)) (length (pattern_list ps))) ss) ps
+      (mentioned_by_name M (is_some (binder_number f names)) f (length (strategy_list ss)) (length (pattern_list ps)))
+      ss) ps
   mentioned_in_strategy names M (congruence h ss) = mentioned_in_strategies names M ss
   mentioned_in_strategy names M (tail_congruence ss s) =
       mentioned_in_strategy names (mentioned_in_strategies names M ss) s

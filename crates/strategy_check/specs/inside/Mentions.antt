@@ -75,8 +75,10 @@ BodiesCovered M (d ∷ ds) = BodyCovered M d × BodiesCovered M ds
 
 -- What is in M and in T is in T', too.
 pub record Keeps (M : Table) (T : Table) (T' : Table) : Type 0 where
-  pub definitions : (f : Symbol) (n m : ℕ) → is_defined M f n m ≡ true → is_defined T f n m ≡ true → is_defined T' f n m ≡ true
-  pub constructors : (f : Symbol) (n : ℕ) → is_declared M f n ≡ true → is_declared T f n ≡ true → is_declared T' f n ≡ true
+  pub definitions : (f : Symbol) (n m : ℕ)
+      → is_defined M f n m ≡ true → is_defined T f n m ≡ true → is_defined T' f n m ≡ true
+  pub constructors : (f : Symbol) (n : ℕ)
+      → is_declared M f n ≡ true → is_declared T f n ≡ true → is_declared T' f n ≡ true
 
 -- What is in M has the number in T' that the list gives for its number in T.
 abbrev pub Renumbers : Table → List ℕ → Table → Table → Type 0

@@ -15,7 +15,8 @@ is_noticed T T' kept old new =
 
 -- New modules stand between the first and the last in place of old ones, and no module notices: the
 -- tables before and after are T and T'.
-pub record StaysFaultless (P : Primitives) (T : Table) (T' : Table) (first : Modules) (old : Modules) (new : Modules) (last : Modules) : Type 0 where
+pub record StaysFaultless (P : Primitives) (T : Table) (T' : Table) (first : Modules) (old : Modules) (new : Modules)
+    (last : Modules) : Type 0 where
   pub again : defines_again T old new ≡ false
   pub clash : has_clash T' new ≡ false
   pub by_first : is_noticed T T' first old new ≡ false

@@ -31,8 +31,10 @@ HasNames known (Some n) E = (x : ℕ) → stands_for E x ≡ stands_for (scope_a
 
 -- With b steps the strategy fails on the term and leaves c, at each level, with all bindings and in
 -- each scope with these names.
-pub record FailsAhead (ds : List Resolved) (known : List Scope) (n : Option ℕ) (s : ResolvedStrategy) (b : ℕ) (t : Tree) (c : ℕ) : Type 0 where
-  pub fails : (W : World) → W.bodies ≡ ds → (E : Scope) → HasNames known n E → (l : ℕ) (B : Bindings) → run W E l s b B t ≡ failed c
+pub record FailsAhead (ds : List Resolved) (known : List Scope) (n : Option ℕ) (s : ResolvedStrategy) (b : ℕ) (t : Tree)
+    (c : ℕ) : Type 0 where
+  pub fails : (W : World) → W.bodies ≡ ds → (E : Scope) → HasNames known n E → (l : ℕ) (B : Bindings)
+      → run W E l s b B t ≡ failed c
 
 -- With b steps s has the answer on the term that r has with c steps, wherever it is run.
 pub record Passes (s : ResolvedStrategy) (b : ℕ) (t : Tree) (r : ResolvedStrategy) (c : ℕ) : Type 0 where

@@ -14,6 +14,9 @@ use Rattle.strategy_machine.specs.declared.choices.Rule.{Rule}
 -- and build over new cells, and two steps of the price are those of the sequence and the match.
 pub record IsRule (ds : List Resolved) (es : List Scope) (s : ResolvedStrategy) (n : ℕ) (r : Rule) : Type 0 where
   pub there : n < length es → IsThere (length es) r.outer
-  pub spent : (W : World) → W.bodies ≡ ds → (l b : ℕ) (B : Bindings) (t : Tree) → b < r.price → run W (scope_at es n) l s b B t ≡ stopped spent
-  pub is : (W : World) → W.bodies ≡ ds → (l b c : ℕ) (B : Bindings) (t : Tree) → b + 2 ≡ c + r.price → run W (scope_at es n) l s b B t
-      ≡ cut (length B) (run W (with_variables (scope_from es r.outer) (length B) r.count) l (seq (matches r.left.now) (builds r.right.now)) c (B ++ replicate r.count None) t)
+  pub spent : (W : World) → W.bodies ≡ ds → (l b : ℕ) (B : Bindings) (t : Tree)
+      → b < r.price → run W (scope_at es n) l s b B t ≡ stopped spent
+  pub is : (W : World) → W.bodies ≡ ds → (l b c : ℕ) (B : Bindings) (t : Tree)
+      → b + 2 ≡ c + r.price → run W (scope_at es n) l s b B t
+      ≡ cut (length B) (run W (with_variables (scope_from es r.outer) (length B) r.count) l
+      (seq (matches r.left.now) (builds r.right.now)) c (B ++ replicate r.count None) t)

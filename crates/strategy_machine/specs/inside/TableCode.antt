@@ -21,7 +21,8 @@ join-split (name s k) = refl
 
 abbrev addition_code : Coded Addition
 addition_code =
-    code_by ((ℕ × ℕ) ⊎ (ResolvedStrategy × ℕ)) (coded⊎ (coded× coded_ℕ coded_ℕ) (coded× resolved_code coded_ℕ)) split join join-split
+    code_by ((ℕ × ℕ) ⊎ (ResolvedStrategy × ℕ)) (coded⊎ (coded× coded_ℕ coded_ℕ) (coded× resolved_code coded_ℕ)) split
+    join join-split
 
 abbrev pub widening_code : Coded Widening
 widening_code =

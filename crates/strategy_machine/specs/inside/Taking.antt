@@ -18,7 +18,8 @@ use Rattle.strategy_machine.specs.Turns.{State, state_of, After, load}
 
 -- The answer that the table's line for the form gives, passed through the frames, is the whole
 -- answer.
-pub record FormIn (W : World) (sub : Standing) (whole : Answer) (S : State) (r : ResolvedStrategy) (n : ℕ) (p : Standing) : Type 0 where
+pub record FormIn (W : World) (sub : Standing) (whole : Answer) (S : State) (r : ResolvedStrategy) (n : ℕ)
+    (p : Standing) : Type 0 where
   pub edits : Edits
   pub shows : Shows S.trail edits
   pub there : n < length S.scopes
@@ -26,7 +27,8 @@ pub record FormIn (W : World) (sub : Standing) (whole : Answer) (S : State) (r :
       (form W (run W) (scope_at S.scopes n) S.level r S.steps S.cells.bindings (standing_tree p))
 
 -- A turn that continues with the form preserves it.
-pub record Takes (W : World) (m : Machine) (r : ResolvedStrategy) (n : ℕ) (p : Standing) (new : Machine) (next : Turned) : Type 0 where
+pub record Takes (W : World) (m : Machine) (r : ResolvedStrategy) (n : ℕ) (p : Standing) (new : Machine)
+    (next : Turned) : Type 0 where
   pub keeps : (sub : Standing) (whole : Answer) → FormIn W sub whole (state_of m) r n p → After W sub whole new next
 
 abbrev pub TakeFalls : Machine → Machine → Turned → Type 0
@@ -41,4 +43,5 @@ pub record Replaced (m : Machine) (u : Tree) (new : Machine) (p : Standing) : Ty
   pub part : p ≡ fresh u
   pub shows : (T : Edits) → Shows m.trail T
       → Shows new.trail (T ++ record { path = path_of (reverse m.frames); new = u } ∷ [])
-  pub rest : (new.frames ≡ m.frames) × (new.cells ≡ m.cells) × (new.scopes ≡ m.scopes) × (new.level ≡ m.level) × (new.steps ≡ m.steps)
+  pub rest : (new.frames ≡ m.frames) × (new.cells ≡ m.cells) × (new.scopes ≡ m.scopes) × (new.level ≡ m.level)
+      × (new.steps ≡ m.steps)

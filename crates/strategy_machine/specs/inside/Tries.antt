@@ -11,7 +11,8 @@ pub record IsItself (s : ResolvedStrategy) : Type 0 where
 
 -- The definition f has no variables and its body is `s <+ id` with its first strategy name s; the
 -- call has a single strategy, which is no name.
-pub record IsTry (ds : List Resolved) (f : ℕ) (ss : List ResolvedStrategy) (ps : List ResolvedPattern) (t : Try) : Type 0 where
+pub record IsTry (ds : List Resolved) (f : ℕ) (ss : List ResolvedStrategy) (ps : List ResolvedPattern)
+    (t : Try) : Type 0 where
   pub body : Resolved
   pub defined : slice_get ds f ≡ Some body
   pub variables : body.variables ≡ 0

@@ -64,28 +64,38 @@ EndFalls m new turns.Big = Unit {0}
 
 -- Beginning with the children from index i on, none of which has changed, preserves the whole
 -- answer.
-pub record GoesIn (W : World) (m : Machine) (acts : Acts) (n : ℕ) (p : Standing) (i : ℕ) (new : Machine) (next : Turned) : Type 0 where
-  pub keeps : (sub : Standing) (whole : Answer) → ((parts : Vec Standing Global) → parts.items ≡ [] → Holds W sub whole m (Each acts n p i parts)) → After W sub whole new next
+pub record GoesIn (W : World) (m : Machine) (acts : Acts) (n : ℕ) (p : Standing) (i : ℕ) (new : Machine)
+    (next : Turned) : Type 0 where
+  pub keeps : (sub : Standing) (whole : Answer)
+      → ((parts : Vec Standing Global) → parts.items ≡ [] → Holds W sub whole m (Each acts n p i parts))
+      → After W sub whole new next
 
 -- The walk moves up from its child, which is now p; if there was no edit since the child's turn
 -- came, nothing has changed.
-pub record ComesUp (m : Machine) (w : Walk) (p : Standing) (new : Machine) (up : Standing × Vec Standing Global) : Type 0 where
+pub record ComesUp (m : Machine) (w : Walk) (p : Standing) (new : Machine)
+    (up : Standing × Vec Standing Global) : Type 0 where
   pub node : up.0 ≡ w.node
-  pub parts : all_parts w.node up.1.items ≡ cond (not (m.trail.count == w.edits)) (slice_set (parts_now w.node (walk_parts w)) w.index p) (walk_parts w)
+  pub parts : all_parts w.node up.1.items
+      ≡ cond (not (m.trail.count == w.edits)) (slice_set (parts_now w.node (walk_parts w)) w.index p) (walk_parts w)
   pub level : new.level ≡ w.level
-  pub rest : (new.frames ≡ m.frames) × (new.cells ≡ m.cells) × (new.scopes ≡ m.scopes) × (new.trail ≡ m.trail) × (new.steps ≡ m.steps)
+  pub rest : (new.frames ≡ m.frames) × (new.cells ≡ m.cells) × (new.scopes ≡ m.scopes) × (new.trail ≡ m.trail)
+      × (new.steps ≡ m.steps)
 
 -- The walk, which holds no parts, moves up from its child, which is now p: the node with that child
 -- is in focus. If there was no edit since the child's turn came, that is the node itself.
 pub record Rises (m : Machine) (w : Walk) (p : Standing) (new : Machine) : Type 0 where
-  pub part : new.part ≡ cond (not (m.trail.count == w.edits)) (with_standing w.node (slice_set (standing_children w.node) w.index p)) w.node
+  pub part : new.part ≡ cond (not (m.trail.count == w.edits))
+      (with_standing w.node (slice_set (standing_children w.node) w.index p)) w.node
   pub level : new.level ≡ w.level
-  pub rest : (new.frames ≡ m.frames) × (new.cells ≡ m.cells) × (new.scopes ≡ m.scopes) × (new.trail ≡ m.trail) × (new.steps ≡ m.steps)
+  pub rest : (new.frames ≡ m.frames) × (new.cells ≡ m.cells) × (new.scopes ≡ m.scopes) × (new.trail ≡ m.trail)
+      × (new.steps ≡ m.steps)
 
 -- The machine goes down from its focus into child i, which is p: the walk holds the node, with these
 -- parts in the places of its first children.
-pub record Descends (m : Machine) (p : Standing) (parts : Vec Standing Global) (i : ℕ) (new : Machine) (w : Walk) : Type 0 where
+pub record Descends (m : Machine) (p : Standing) (parts : Vec Standing Global) (i : ℕ) (new : Machine)
+    (w : Walk) : Type 0 where
   pub walk : w ≡ record { node = m.part; parts = parts; index = i; level = m.level; edits = m.trail.count }
   pub part : new.part ≡ p
   pub level : new.level ≡ m.level + 1
-  pub rest : (new.frames ≡ m.frames) × (new.cells ≡ m.cells) × (new.scopes ≡ m.scopes) × (new.trail ≡ m.trail) × (new.steps ≡ m.steps)
+  pub rest : (new.frames ≡ m.frames) × (new.cells ≡ m.cells) × (new.scopes ≡ m.scopes) × (new.trail ≡ m.trail)
+      × (new.steps ≡ m.steps)

@@ -59,7 +59,8 @@ GoesOn f p edits s m g q =
 -- the same for the innermost of these frames
 abbrev pub LastGoesOn : List Frame → Standing → ℕ → Bor ResolvedStrategy → ℕ → List Frame → Standing → Type 0
 LastGoesOn fs p edits s m gs q =
-    (front : List Frame) × (f : Frame) × (g : Frame) × (fs ≡ front ++ f ∷ []) × (gs ≡ front ++ g ∷ []) × GoesOn f p edits s m g q
+    (front : List Frame) × (f : Frame) × (g : Frame)
+    × (fs ≡ front ++ f ∷ []) × (gs ≡ front ++ g ∷ []) × GoesOn f p edits s m g q
 
 -- ---- after a failure
 
@@ -79,4 +80,5 @@ StepsOver w p found v q = MatchOption found ((v ≡ w) × (q ≡ p) × (next_par
 -- the same for the walk of the innermost of these frames, which has slot x
 abbrev pub LastStepsOver : Slot → List Frame → Standing → Option ℕ → List Frame → Standing → Type 0
 LastStepsOver x fs p found gs q =
-    (front : List Frame) × (w : Walk) × (v : Walk) × (fs ≡ front ++ with_walk x w) × (gs ≡ front ++ with_walk x v) × StepsOver w p found v q
+    (front : List Frame) × (w : Walk) × (v : Walk) × (fs ≡ front ++ with_walk x w) × (gs ≡ front ++ with_walk x v)
+    × StepsOver w p found v q

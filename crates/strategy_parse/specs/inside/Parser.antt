@@ -172,7 +172,8 @@ in_frame s (Else a b) S t =
     if (is_word KEnd t) then goes (Read (syntax.guard (syntax.test a) b s)) S else stuck
 in_frame s (Where p q) S t =
     if (is_mark Backslash t)
-    then goes (Read (syntax.scope (first_ones same_name [] (variables p)) (rewrite_where (order_of S) p q s))) S else stuck
+    then goes (Read (syntax.scope (first_ones same_name [] (variables p)) (rewrite_where (order_of S) p q s))) S
+    else stuck
 in_frame s (Strategies g done) S t = after_element g (done ++ s ∷ []) S t
 in_frame s (SquareTail done) S t =
     if (is_mark CloseSquare t)

@@ -1,5 +1,5 @@
--- How far the machine takes some tokens, on its own: before the first one that it doesn't take, the form goes on with other
--- tokens, and it either ends or is stuck there.
+-- How far the machine takes some tokens, on its own: before the first one that it doesn't take, the form goes on with
+-- other tokens, and it either ends or is stuck there.
 use Rattle.std.specs.Prelude.{◌≡◌, Bool, true, false, List, [], ◌∷◌, ◌++◌, Some, None}
 use Rattle.std.specs.declared.option.Option.{Option}
 use Rattle.strategy_syntax.specs.Syntax.{Strategy}

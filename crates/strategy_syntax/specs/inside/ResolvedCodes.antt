@@ -64,7 +64,8 @@ mutual
 
   pub resolved_patterns_again : (ps : ResolvedPatterns) → of_patterns (to_patterns ps) ≡ ps
   resolved_patterns_again no_resolved_patterns = refl
-  resolved_patterns_again (and_resolved_pattern p ps) = λ i. and_resolved_pattern (resolved_pattern_again p i) (resolved_patterns_again ps i)
+  resolved_patterns_again (and_resolved_pattern p ps) =
+      λ i. and_resolved_pattern (resolved_pattern_again p i) (resolved_patterns_again ps i)
 
 abbrev pub resolved_pattern_code : Coded ResolvedPattern
 resolved_pattern_code = code_by named.Pattern pattern_code to_pattern of_pattern resolved_pattern_again

@@ -9,7 +9,8 @@ use Rattle.term_sorts.specs.declared.signature.Form.{Form}
 -- a remainder of the name and the number of arguments
 abbrev pub bucket_of : Symbol → ℕ → ℕ
 bucket_of f n =
-    (slice_index_or f.text 0 0 * 31 + slice_index_or f.text (length f.text - 1) 0 * 7 + length f.text % 64 * 3 + n % 64) % 256
+    (slice_index_or f.text 0 0 * 31 + slice_index_or f.text (length f.text - 1) 0 * 7 + length f.text
+    % 64 * 3 + n % 64) % 256
 
 abbrev pub declarations_in : List Form → List Declaration
 declarations_in forms = map (λ f. f.declaration) forms

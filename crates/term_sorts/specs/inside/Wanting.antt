@@ -33,7 +33,8 @@ ElementsAre injections sorts (Some s) (Some w) =
 -- these are the numbers of the parts of the sort of the one number, which is one of tuples of so many
 abbrev pub ArePartsOf : List Sort → ℕ → ℕ → List ℕ → Type 0
 ArePartsOf sorts number count numbers =
-    (parts : List Sort) × AreNumbers sorts numbers parts × (length parts ≡ count) × IsNumber sorts number (tuple_sort parts)
+    (parts : List Sort) × AreNumbers sorts numbers parts
+    × (length parts ≡ count) × IsNumber sorts number (tuple_sort parts)
 
 -- what a tuple of so many at a place wants of its parts
 abbrev pub PartsWanted : List Injection → List Sort → Option Sort → ℕ → Parts → Type 0

@@ -46,7 +46,8 @@ size_parts (integer z notes) = omega (arith, ap sizes (of_list-to_list notes))
 size_parts (branch head kids notes) =
     omega (arith, ap sizes (of_list-to_list kids), ap sizes (of_list-to_list notes))
 
-pub size_annotated : (t : Tree) (ns : List Tree) → size (with_annotations t ns) ≡ sizes (of_list (children t)) + sizes (of_list ns) + 1
+pub size_annotated : (t : Tree) (ns : List Tree)
+    → size (with_annotations t ns) ≡ sizes (of_list (children t)) + sizes (of_list ns) + 1
 size_annotated (integer z notes) ns = omega arith
 size_annotated (branch head kids notes) ns = omega (arith, ap sizes (of_list-to_list kids))
 

@@ -24,7 +24,8 @@ decreases-pretty_all l = 5 * heights (of_list l.terms.now) + 2
 -- what was printed, followed by what is yet to be printed, is the whole text
 abbrev pub invariant-pretty_all-loop-term : goal.invariant-pretty_all-loop-term
 invariant-pretty_all-loop-term l = record {
-  text : l.initial.out.items ++ pretty_more l.column (of_list l.rest) ≡ l.out.items ++ pretty_more l.column (of_list (drop l.term-index l.rest));
+  text : l.initial.out.items ++ pretty_more l.column (of_list l.rest)
+      ≡ l.out.items ++ pretty_more l.column (of_list (drop l.term-index l.rest));
   terms : AreTerms (of_list (drop l.term-index l.rest)) → AreTerms (of_list l.rest);
   grows : Extends l.initial.out.items l.out.items;
   room : vec_capacity l.initial.out ≤ vec_capacity l.out;

@@ -21,4 +21,5 @@ decreases-room_after_all l = 5 * heights (of_list l.terms.now) + 2
 
 -- what is left, with all that follows the first term, is what was left after it, with what is still to be measured
 abbrev pub invariant-room_after_all-loop-term : goal.invariant-room_after_all-loop-term
-invariant-room_after_all-loop-term l = l.left + length (print_more (of_list l.rest)) ≡ l.initial.left + length (print_more (of_list (drop l.term-index l.rest)))
+invariant-room_after_all-loop-term l = l.left + length (print_more (of_list l.rest))
+    ≡ l.initial.left + length (print_more (of_list (drop l.term-index l.rest)))

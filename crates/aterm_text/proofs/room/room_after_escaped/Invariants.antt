@@ -5,4 +5,5 @@ use Rattle.aterm_text.proofs.room.room_after_escaped.Given as goal
 
 -- what is left, with all bytes, is the room, with those still to be measured
 abbrev pub invariant-loop-byte : goal.invariant-loop-byte
-invariant-loop-byte l = l.left + length (flat_map escaped l.bytes) ≡ l.room + length (flat_map escaped (drop l.byte-index l.bytes))
+invariant-loop-byte l =
+    l.left + length (flat_map escaped l.bytes) ≡ l.room + length (flat_map escaped (drop l.byte-index l.bytes))

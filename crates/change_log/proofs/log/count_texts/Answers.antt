@@ -7,6 +7,8 @@ pub loop-entry-preserved : goal.loop-entry-preserved
 loop-entry-preserved c = (
   omega (arith, c.loop-entry.invariant.0, c.texts-count.ensures.one),
   λ paths.
-      let got = slice_get-get_or c.args.replaced.now c.loop-entry.entry-index c.entry-item.result c.loop-entry-test.true ∙ ap Some (sym c.entry-item.is) in
-      one_counted c.args.replaced.now paths c.loop-entry.entry-index c.loop-entry.count c.texts-count.result c.entry-item.result got (c.loop-entry.invariant.1 paths) c.texts-count.ensures.value,
+      let got = slice_get-get_or c.args.replaced.now c.loop-entry.entry-index c.entry-item.result c.loop-entry-test.true
+      ∙ ap Some (sym c.entry-item.is) in
+      one_counted c.args.replaced.now paths c.loop-entry.entry-index c.loop-entry.count c.texts-count.result
+      c.entry-item.result got (c.loop-entry.invariant.1 paths) c.texts-count.ensures.value,
 )

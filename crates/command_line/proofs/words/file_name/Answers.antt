@@ -3,7 +3,8 @@ use Rattle.clap.specs.Words.{Rule}
 use Rattle.command_line.proofs.words.file_name.Goals as goal
 
 pub returns-clause-rule : goal.returns-clause-rule
-returns-clause-rule c = rw (c.help.ensures, c.value_name.ensures) (ap (λ (r : Rule). record r { value_names = 1 }) c.new.ensures.rule)
+returns-clause-rule c =
+    rw (c.help.ensures, c.value_name.ensures) (ap (λ (r : Rule). record r { value_names = 1 }) c.new.ensures.rule)
 
 pub returns-clause-local : goal.returns-clause-local
 returns-clause-local c = rw (c.help.ensures, c.value_name.ensures) c.new.ensures.optional.1

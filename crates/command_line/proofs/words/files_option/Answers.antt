@@ -6,7 +6,9 @@ use Rattle.command_line.proofs.words.files_option.Goals as goal
 pub returns-clause-rule : goal.returns-clause-rule
 returns-clause-rule c =
     rw (c.help.ensures, c.action.ensures, c.value_name.ensures, c.long.ensures)
-    (ap (λ (r : Rule). record r { long = Some c.args.name.now; value_names = 1; action = Some Append }) c.new.ensures.rule)
+    (ap (λ (r : Rule). record r { long = Some c.args.name.now; value_names = 1; action = Some Append })
+    c.new.ensures.rule)
 
 pub returns-clause-local : goal.returns-clause-local
-returns-clause-local c = rw (c.help.ensures, c.action.ensures, c.value_name.ensures, c.long.ensures) c.new.ensures.optional.1
+returns-clause-local c =
+    rw (c.help.ensures, c.action.ensures, c.value_name.ensures, c.long.ensures) c.new.ensures.optional.1

@@ -7,7 +7,8 @@ use Rattle.prim_extended.proofs.GreatestLemmas.{of_children}
 use Rattle.prim_extended.proofs.greatest.+greatest.Goals as goal
 
 pub greatest-greatest_of-requires : goal.greatest-greatest_of-requires
-greatest-greatest_of-requires t c = (omega (arith, children_lower c.args.term.now c.children.result.now c.children.ensures, c.decreases), tt)
+greatest-greatest_of-requires t c =
+    (omega (arith, children_lower c.args.term.now c.children.result.now c.children.ensures, c.decreases), tt)
 
 pub greatest-returns : goal.greatest-returns
 greatest-returns t c =
@@ -17,5 +18,12 @@ greatest-returns t c =
 pub greatest_of-greatest-found-requires : goal.greatest_of-greatest-found-requires
 greatest_of-greatest-found-requires t c =
     let all = c.args.terms.now in
-    let i = c.loop-term.term-index in
-    (omega (arith, heights-take_more all i c.term-item.result c.loop-term-test.true c.term-item.is, heights-take all (i + 1), c.decreases), tt)
+    let i = c.loop-term.term-index in (
+      omega (
+        arith,
+        heights-take_more all i c.term-item.result c.loop-term-test.true c.term-item.is,
+        heights-take all (i + 1),
+        c.decreases,
+      ),
+      tt,
+    )

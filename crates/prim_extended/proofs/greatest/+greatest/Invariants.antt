@@ -12,4 +12,5 @@ decreases-greatest_of l = 2 * heights (of_list l.terms.now) + 2
 
 -- the greatest so far, and of the terms that are left
 abbrev pub invariant-greatest_of-loop-term : goal.invariant-greatest_of-loop-term
-invariant-greatest_of-loop-term l = greatest_of_all l.fn.beginning l.fn.least (of_list l.terms) ≡ greatest_of_all l.fn.beginning l.found (of_list (drop l.term-index l.terms))
+invariant-greatest_of-loop-term l = greatest_of_all l.fn.beginning l.fn.least (of_list l.terms)
+    ≡ greatest_of_all l.fn.beginning l.found (of_list (drop l.term-index l.terms))

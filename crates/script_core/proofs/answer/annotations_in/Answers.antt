@@ -6,4 +6,5 @@ use Rattle.script_core.proofs.answer.annotations_in.Goals as goal
 pub returns-in-Err-clause-refused : goal.returns-in-Err-clause-refused
 returns-in-Err-clause-refused c =
     let told = c.in-Err.ensures in
-    rw c.read_refusal.ensures (read_refused SpellsAnnotations c.args.text.now c.in-Err.fault (λ e. told.deep.0 (ap Err e)) (λ deep. let e = told.deep.1 deep in cc) (λ e. told.no_term (ap Err e)))
+    rw c.read_refusal.ensures (read_refused SpellsAnnotations c.args.text.now c.in-Err.fault
+    (λ e. told.deep.0 (ap Err e)) (λ deep. let e = told.deep.1 deep in cc) (λ e. told.no_term (ap Err e)))

@@ -7,4 +7,7 @@ returns c =
     let lines = c.printed_text_is_one_line.ensures in
     let nests = c.printed_text_nests.ensures in
     let lengthy = c.printed_text_is_as_long.ensures in
-    record { contents = dump_read_back back lines nests lengthy c.one_run.ensures; answered = dump_answered back lines nests lengthy }
+    record {
+      contents = dump_read_back back lines nests lengthy c.one_run.ensures;
+      answered = dump_answered back lines nests lengthy;
+    }

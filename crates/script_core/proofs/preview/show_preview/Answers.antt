@@ -10,15 +10,20 @@ pub write_preview-requires : goal.write_preview-requires
 write_preview-requires g c =
     let p = c.in_ok-preview.ensures.answers.ok in
     let tree : c.in-Some.tree.now ≡ p.tree =
-    same_tree c.in-Some.tree.now p.tree (c.in-Some.ensures.value ∙ ap (λ (h : History). finmap.get h.now.trees c.args.name.now) c.in_ok-preview.ensures.same ∙ p.held) in
-    are_in c.in-Some.tree.now c.in_ok-preview.preview.plan p.shown.replacements p.plan (subst (λ t. AreThere t p.shown.replacements) (sym tree) p.there)
+    same_tree c.in-Some.tree.now p.tree
+    (c.in-Some.ensures.value ∙ ap (λ (h : History). finmap.get h.now.trees c.args.name.now) c.in_ok-preview.ensures.same
+    ∙ p.held) in
+    are_in c.in-Some.tree.now c.in_ok-preview.preview.plan p.shown.replacements p.plan
+    (subst (λ t. AreThere t p.shown.replacements) (sym tree) p.there)
 
 pub returns : goal.returns
 returns g c =
     let p = c.in_ok-preview.ensures.answers.ok in
     let same = c.in_ok-preview.ensures.same in
     let tree : c.in-Some.tree.now ≡ p.tree =
-    same_tree c.in-Some.tree.now p.tree (c.in-Some.ensures.value ∙ ap (λ (h : History). finmap.get h.now.trees c.args.name.now) same ∙ p.held) in
+    same_tree c.in-Some.tree.now p.tree
+    (c.in-Some.ensures.value ∙ ap (λ (h : History). finmap.get h.now.trees c.args.name.now) same ∙ p.held) in
     let there = subst (λ t. AreThere t p.shown.replacements) (sym tree) p.there in
-    let text = c.in_ok-write_preview.ensures ∙ text_of_plan c.in-Some.tree.now c.in_ok-preview.preview.plan c.in_ok-preview.preview.steps p.shown p.plan p.steps there in
+    let text = c.in_ok-write_preview.ensures ∙ text_of_plan c.in-Some.tree.now c.in_ok-preview.preview.plan
+    c.in_ok-preview.preview.steps p.shown p.plan p.steps there in
     record { ok = (Ok p.shown, p.previews, (λ i. Ok (told_of (same i) (text i)))); refused = tt; err = tt }

@@ -16,6 +16,8 @@ decreases-add_children l = 2 * heights (of_list l.old.now) + 2
 abbrev pub invariant-add_children-loop-i : goal.invariant-add_children-loop-i
 invariant-add_children-loop-i l = record {
   path : l.path.items ≡ l.initial.path.items;
-  lines : (c : CountedLines) → AddsLines (map (difference_line l.name) (differences_from l.initial.path.items l.i (of_list (drop l.i l.old)) (of_list (drop l.i l.new)))) l.lines c
-      → AddsLines (map (difference_line l.name) (differences_from l.initial.path.items 0 (of_list l.old) (of_list l.new))) l.initial.lines c;
+  lines : (c : CountedLines) → AddsLines (map (difference_line l.name)
+      (differences_from l.initial.path.items l.i (of_list (drop l.i l.old)) (of_list (drop l.i l.new)))) l.lines c
+      → AddsLines (map (difference_line l.name)
+      (differences_from l.initial.path.items 0 (of_list l.old) (of_list l.new))) l.initial.lines c;
 }

@@ -10,7 +10,8 @@ use Rattle.session_changes.proofs.last_step.add_asked.Goals as goal
 pub returns-then-not-is_asked : goal.returns-then-not-is_asked
 returns-then-not-is_asked c =
     adds_equal _ c.args.lines.now
-    (unasked_told (option_copied c.args.name) c.args.it.name.now (entry_lines c.args.store.now c.args.it.name.now (held_entry c.args.it.held))
+    (unasked_told (option_copied c.args.name) c.args.it.name.now
+    (entry_lines c.args.store.now c.args.it.name.now (held_entry c.args.it.held))
     (λ h. let never : false ≡ true = c.if-not-is_asked.ensures.1 h in cc))
 
 pub returns : goal.returns
@@ -20,4 +21,6 @@ returns c =
     let s = c.args.store.now in
     on_ok_weaker c.add_held.result
     (subst (λ l. AddsLines l c.args.lines.now c.add_held.new.lines)
-    (ap (λ m. entry_lines s m e) c.bytes.ensures.value ∙ sym (asked_told (option_copied c.args.name) n (entry_lines s n e) (c.if-not-is_asked.ensures.0 refl)))) c.add_held.ensures
+    (ap (λ m. entry_lines s m e) c.bytes.ensures.value
+    ∙ sym (asked_told (option_copied c.args.name) n (entry_lines s n e) (c.if-not-is_asked.ensures.0 refl))))
+    c.add_held.ensures

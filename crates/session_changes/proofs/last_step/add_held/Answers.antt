@@ -11,11 +11,15 @@ returns-in-Tree c =
     let h = c.args.held in
     on_ok_weaker c.add_tree.result
     (subst (λ l. AddsLines l c.args.lines.now c.add_tree.new.lines)
-    ((λ k. tree_lines c.args.name.now (c.as_ref.ensures.value k) (c.tree-tree.ensures k)) ∙ ap (λ kept. entry_lines c.args.store.now c.args.name.now (entry_of h.slot h.path.now kept)) (sym c.in-Tree.is))) c.add_tree.ensures.ok
+    ((λ k. tree_lines c.args.name.now (c.as_ref.ensures.value k) (c.tree-tree.ensures k))
+    ∙ ap (λ kept. entry_lines c.args.store.now c.args.name.now (entry_of h.slot h.path.now kept)) (sym c.in-Tree.is)))
+    c.add_tree.ensures.ok
 
 pub returns-in-Text : goal.returns-in-Text
 returns-in-Text c =
     let h = c.args.held in
     on_ok_weaker c.add_text.result
     (subst (λ l. AddsLines l c.args.lines.now c.add_text.new.lines)
-    ((λ k. text_lines c.args.name.now (c.bytes_of.ensures k) (c.module.ensures k)) ∙ ap (λ kept. entry_lines c.args.store.now c.args.name.now (entry_of h.slot h.path.now kept)) (sym c.in-Text.is))) c.add_text.ensures
+    ((λ k. text_lines c.args.name.now (c.bytes_of.ensures k) (c.module.ensures k))
+    ∙ ap (λ kept. entry_lines c.args.store.now c.args.name.now (entry_of h.slot h.path.now kept)) (sym c.in-Text.is)))
+    c.add_text.ensures

@@ -15,7 +15,9 @@ returns c =
     on_ok_weaker c.add_named.result
     (subst (λ l. AddsLines l c.args.lines.now c.add_named.new.lines)
     (ap (λ ys. flat_map (asked_lines (option_copied c.args.name) c.args.store.now) (pairs_of ys)) c.deref.ensures.value
-    ∙ sym (found_told (option_copied c.args.name) c.args.store.now c.names_are_distinct.ensures.trees c.names_are_distinct.ensures.modules c.args.log.now c.in_ok-found.found.items c.sort_unstable_by_key.new.self.items
+    ∙ sym (found_told (option_copied c.args.name) c.args.store.now c.names_are_distinct.ensures.trees
+    c.names_are_distinct.ensures.modules c.args.log.now c.in_ok-found.found.items c.sort_unstable_by_key.new.self.items
     c.in_ok-found.ensures.log c.in_ok-found.ensures.names c.sort_unstable_by_key.ensures.permutation
-    (c.sort_unstable_by_key.ensures.sorted (λ (x : NamedEntry). (is_of_text (held_entry x.held), x.name, x.held.path)) (answers_always _ _ _ (λ f a r g h. search rules)))
+    (c.sort_unstable_by_key.ensures.sorted (λ (x : NamedEntry). (is_of_text (held_entry x.held), x.name, x.held.path))
+    (answers_always _ _ _ (λ f a r g h. search rules)))
     c.requires.compact c.requires.fits))) c.add_named.ensures

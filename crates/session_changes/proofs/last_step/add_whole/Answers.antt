@@ -10,7 +10,9 @@ pub returns : goal.returns
 returns c =
     on_ok_weaker c.add_named.result
     (subst (λ l. AddsLines l c.args.lines.now c.add_named.new.lines)
-    (sym (one_told (option_copied c.args.name) c.args.store.now c.names_are_distinct.ensures.trees c.names_are_distinct.ensures.modules c.in-Some.label.now (whole_entry c.args.whole.now) c.in-Some.ensures.named c.requires))) c.add_named.ensures
+    (sym (one_told (option_copied c.args.name) c.args.store.now c.names_are_distinct.ensures.trees
+    c.names_are_distinct.ensures.modules c.in-Some.label.now (whole_entry c.args.whole.now) c.in-Some.ensures.named
+    c.requires))) c.add_named.ensures
 
 pub unreachable-requires : goal.unreachable-requires
 unreachable-requires c =

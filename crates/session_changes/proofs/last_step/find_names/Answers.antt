@@ -18,7 +18,8 @@ loop-held-init c =
 
 pub unreachable-requires : goal.unreachable-requires
 unreachable-requires c =
-    let slots : HaveSlots c.args.store.now (held_entry c.in-Some.held ∷ c.next.new.self) = subst (HaveSlots c.args.store.now) c.in-Some.ensures c.loop-held.invariant.slots in
+    let slots : HaveSlots c.args.store.now (held_entry c.in-Some.held ∷ c.next.new.self) =
+    subst (HaveSlots c.args.store.now) c.in-Some.ensures c.loop-held.invariant.slots in
     let never : false ≡ true = c.in_default-name_of.ensures.there slots.0 in
     cc
 
@@ -27,14 +28,17 @@ loop-held-preserved c =
     let s = c.args.store.now in
     let x : NamedEntry = record { name = c.in-Some-name_of.name; held = c.in-Some.held } in
     let items = c.in_ok-push.ensures.items in
-    let slots : HaveSlots s (held_entry c.in-Some.held ∷ c.next.new.self) = subst (HaveSlots s) c.in-Some.ensures c.loop-held.invariant.slots in
+    let slots : HaveSlots s (held_entry c.in-Some.held ∷ c.next.new.self) =
+    subst (HaveSlots s) c.in-Some.ensures c.loop-held.invariant.slots in
     record {
       log =
           ap (λ xs. those (pairs_of xs) ++ c.next.new.self) items
-          ∙ found_more c.loop-held.found.items x c.loop-held.rest c.next.new.self c.args.log.now c.loop-held.invariant.log c.in-Some.ensures;
+          ∙ found_more c.loop-held.found.items x c.loop-held.rest c.next.new.self c.args.log.now
+          c.loop-held.invariant.log c.in-Some.ensures;
       names =
           subst (λ xs. AllAs (IsNamed s) (pairs_of xs)) (sym items)
-          (named_more (IsNamed s) c.loop-held.found.items x c.loop-held.invariant.names c.in-Some-name_of.ensures.named);
+          (named_more (IsNamed s) c.loop-held.found.items x c.loop-held.invariant.names
+          c.in-Some-name_of.ensures.named);
       slots = slots.1;
     }
 

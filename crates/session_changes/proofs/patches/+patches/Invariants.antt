@@ -17,6 +17,9 @@ invariant-add_kids-loop-k l = record {
   within : l.at ≤ length l.children;
   path : l.path.items ≡ l.initial.path.items;
   reader : l.reader ≡ drop l._k l.initial.reader;
-  lines : (c : CountedLines) → AddsLines (map (difference_line l.name) (differences_of l.initial.path.items l.at (drop l._k (take l.kids l.initial.reader)) (drop l.at l.children))) l.lines c
-      → AddsLines (map (difference_line l.name) (differences_of l.initial.path.items 0 (take l.kids l.initial.reader) l.children)) l.initial.lines c;
+  lines : (c : CountedLines) → AddsLines (map (difference_line l.name)
+      (differences_of l.initial.path.items l.at (drop l._k (take l.kids l.initial.reader)) (drop l.at l.children)))
+      l.lines c
+      → AddsLines (map (difference_line l.name)
+      (differences_of l.initial.path.items 0 (take l.kids l.initial.reader) l.children)) l.initial.lines c;
 }

@@ -9,4 +9,5 @@ pub returns-in_default : goal.returns-in_default
 returns-in_default c =
     let path = c.args.path.now.items in
     let u = c.args.tree.now in
-    adds_equal _ _ (ap (map (difference_line c.args.name.now)) (ap (λ it. differences path (changed it u) u) (sym c.reader-reader.ensures) ∙ nothing_read path c.reader-reader.result u c.in_default.ensures))
+    adds_equal _ _ (ap (map (difference_line c.args.name.now)) (ap (λ it. differences path (changed it u) u)
+    (sym c.reader-reader.ensures) ∙ nothing_read path c.reader-reader.result u c.in_default.ensures))

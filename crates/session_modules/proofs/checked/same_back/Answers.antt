@@ -8,7 +8,8 @@ pub loop-back-init : goal.loop-back-init
 loop-back-init c = none_left (contents c.args.store.now).modules c.args.names.now c.args.modules.now
 
 pub bounds-texts-at : goal.bounds-texts-at
-bounds-texts-at c = omega (arith, c.loop-back-test.true, c.min.ensures, read_from-length c.args.texts.now c.args.modules.now c.requires.read)
+bounds-texts-at c = omega
+    (arith, c.loop-back-test.true, c.min.ensures, read_from-length c.args.texts.now c.args.modules.now c.requires.read)
 
 pub returns-then-not-is_same-clause-read : goal.returns-then-not-is_same-clause-read
 returns-then-not-is_same-clause-read c = c.loop-back.invariant
@@ -27,11 +28,16 @@ loop-back-preserved c =
     let after_i : i ≡ length ns - (c.loop-back.back + 1) = omega arith in
     let after_j : j ≡ length ms - (c.loop-back.back + 1) = omega arith in
     subst₂ (λ n m. AreRead texts (drop n ns) (drop m ms)) after_i after_j
-    (one_before texts ns ms i j c.index-names-names.result c.index-modules-at.result in_names in_modules c.index-names-names.is c.index-modules-at.is
-    (is_of texts c.index-names-names.result c.index-texts-at.result c.index-modules-at.result (c.if-not-is_same.ensures.named refl) (c.if-not-is_same.ensures.text refl)
-    (read_from-at c.args.texts.now ms j c.index-texts-at.result c.index-modules-at.result c.requires.read in_modules c.index-texts-at.is c.index-modules-at.is))
+    (one_before texts ns ms i j c.index-names-names.result c.index-modules-at.result in_names in_modules
+    c.index-names-names.is c.index-modules-at.is
+    (is_of texts c.index-names-names.result c.index-texts-at.result c.index-modules-at.result
+    (c.if-not-is_same.ensures.named refl) (c.if-not-is_same.ensures.text refl)
+    (read_from-at c.args.texts.now ms j c.index-texts-at.result c.index-modules-at.result c.requires.read in_modules
+    c.index-texts-at.is c.index-modules-at.is))
     (subst₂ (λ n m. AreRead texts (drop n ns) (drop m ms)) before_i before_j c.loop-back.invariant))
 
 pub returns-clause-read : goal.returns-clause-read
 returns-clause-read c =
-    subst (λ n. AreRead (contents c.args.store.now).modules (drop (length c.args.names.now - n) c.args.names.now) (drop (length c.args.modules.now - n) c.args.modules.now)) (omega (arith, c.loop-back-test.false)) c.loop-back.invariant
+    subst (λ n. AreRead (contents c.args.store.now).modules (drop (length c.args.names.now - n) c.args.names.now)
+    (drop (length c.args.modules.now - n) c.args.modules.now)) (omega (arith, c.loop-back-test.false))
+    c.loop-back.invariant

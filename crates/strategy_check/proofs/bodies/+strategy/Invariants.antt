@@ -31,6 +31,7 @@ decreases-resolve_strategies g l = 8 * depths (strategies_of l.strategies.now) +
 
 abbrev pub invariant-resolve_strategies-loop-strategy : goal.invariant-resolve_strategies-loop-strategy
 invariant-resolve_strategies-loop-strategy g l = record {
-  made : resolveds_of l.resolved.items ≡ resolved_strategies l.table l.primitives l.fn.scope (strategies_of (take l.strategy-index l.strategies));
+  made : resolveds_of l.resolved.items
+      ≡ resolved_strategies l.table l.primitives l.fn.scope (strategies_of (take l.strategy-index l.strategies));
   kept : l.scope ≡ l.fn.scope;
 }

@@ -5,4 +5,5 @@ use Rattle.strategy_check.proofs.changes.any_again.Given as goal
 
 -- none so far
 abbrev pub invariant-loop-key : goal.invariant-loop-key
-invariant-loop-key l = list_any (is_again l.before l.old) (drop l.key-index l.keys) ≡ list_any (is_again l.before l.old) l.keys
+invariant-loop-key l =
+    list_any (is_again l.before l.old) (drop l.key-index l.keys) ≡ list_any (is_again l.before l.old) l.keys

@@ -5,4 +5,5 @@ use Rattle.strategy_check.proofs.changes.any_clash.Given as goal
 
 -- none so far
 abbrev pub invariant-loop-constructor : goal.invariant-loop-constructor
-invariant-loop-constructor l = list_any (is_clash l.after) (drop l.constructor-index l.constructors) ≡ list_any (is_clash l.after) l.constructors
+invariant-loop-constructor l =
+    list_any (is_clash l.after) (drop l.constructor-index l.constructors) ≡ list_any (is_clash l.after) l.constructors

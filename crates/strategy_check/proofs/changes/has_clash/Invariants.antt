@@ -5,4 +5,5 @@ use Rattle.strategy_check.proofs.changes.has_clash.Given as goal
 
 -- none so far
 abbrev pub invariant-loop-named : goal.invariant-loop-named
-invariant-loop-named l = list_any (λ m. list_any (is_clash l.after) m.1.constructors) (drop l.named-index l.new) ≡ list_any (λ m. list_any (is_clash l.after) m.1.constructors) l.new
+invariant-loop-named l = list_any (λ m. list_any (is_clash l.after) m.1.constructors) (drop l.named-index l.new)
+    ≡ list_any (λ m. list_any (is_clash l.after) m.1.constructors) l.new

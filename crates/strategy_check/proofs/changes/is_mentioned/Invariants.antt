@@ -5,4 +5,5 @@ use Rattle.strategy_check.proofs.changes.is_mentioned.Given as goal
 
 -- none so far
 abbrev pub invariant-loop-named : goal.invariant-loop-named
-invariant-loop-named l = list_any (mentions_key l.key) (drop l.named-index l.modules) ≡ list_any (mentions_key l.key) l.modules
+invariant-loop-named l =
+    list_any (mentions_key l.key) (drop l.named-index l.modules) ≡ list_any (mentions_key l.key) l.modules

@@ -5,4 +5,6 @@ use Rattle.strategy_check.proofs.changes.misses_constructor.Given as goal
 
 -- none so far
 abbrev pub invariant-loop-named : goal.invariant-loop-named
-invariant-loop-named l = list_any (λ m. list_any (is_missed_constructor l.table l.kept) (own_table m).constructors) (drop l.named-index l.of) ≡ list_any (λ m. list_any (is_missed_constructor l.table l.kept) (own_table m).constructors) l.of
+invariant-loop-named l =
+    list_any (λ m. list_any (is_missed_constructor l.table l.kept) (own_table m).constructors) (drop l.named-index l.of)
+    ≡ list_any (λ m. list_any (is_missed_constructor l.table l.kept) (own_table m).constructors) l.of

@@ -12,8 +12,10 @@ loop-named-preserved c =
     let i = c.loop-named.named-index in
     let n = c.loop-named.count in
     let m = c.named-item.result in
-    let more : c.len-more.result ≡ length (own_table m).definitions = c.len-more.ensures.len ∙ ap (λ (T : Table). length T.definitions) (c.behind-named.view_is ∙ c.defines.ensures) in
-    let sum : c.in_ok-count.count ≡ n + c.len-more.result = (rw (c.ok_or.ensures.ok_part ∙ ap result_ok c.in_ok-count.was) at c.checked_add.ensures).1 in
+    let more : c.len-more.result ≡ length (own_table m).definitions = c.len-more.ensures.len
+    ∙ ap (λ (T : Table). length T.definitions) (c.behind-named.view_is ∙ c.defines.ensures) in
+    let sum : c.in_ok-count.count ≡ n + c.len-more.result =
+    (rw (c.ok_or.ensures.ok_part ∙ ap result_ok c.in_ok-count.was) at c.checked_add.ensures).1 in
     ap (λ k. k + own_count (drop (i + 1) ms)) (sum ∙ ap (λ k. n + k) more)
     ∙ turn (λ k ms. k + own_count ms) (λ k m. k + length (own_table m).definitions) (λ k m ms. omega arith)
     ms i n m (own_count ms) c.loop-named-test.true c.named-item.is c.loop-named.invariant

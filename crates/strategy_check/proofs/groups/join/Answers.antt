@@ -10,6 +10,8 @@ loop-body-preserved c =
     let r : ResolvedStrategy = c.in-Some-pop.body in
     let q : ResolvedStrategy = c.loop-body.whole in
     let parts = c.in_ok-parts.ensures.ok in
-    let whole : c.in_ok-whole.whole ≡ guard r id q = c.in_ok-whole.ensures ∙ c.new-in-Some-pop-2.ensures ∙ (λ i. guard (parts i).0 (parts i).1 (parts i).2) ∙ ap (λ n. guard r n q) c.new-id.ensures in
+    let whole : c.in_ok-whole.whole ≡ guard r id q = c.in_ok-whole.ensures
+    ∙ c.new-in-Some-pop-2.ensures ∙ (λ i. guard (parts i).0 (parts i).1 (parts i).2)
+    ∙ ap (λ n. guard r n q) c.new-id.ensures in
     ap (λ w. joined (rs ++ w ∷ [])) whole ∙ joined-last rs r q ∙ ap joined (sym (append_assoc rs (r ∷ []) (q ∷ [])))
     ∙ ap (λ l. joined (l ++ q ∷ [])) (sym c.in-Some-pop.ensures.items) ∙ c.loop-body.invariant

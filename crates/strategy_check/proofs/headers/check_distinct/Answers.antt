@@ -16,14 +16,20 @@ loop-index-preserved c =
     let x = c.index-names-index.result in
     let seen = c.loop-index.seen.keys in
     record {
-      faults = next_added (λ seen x. fault_if (is_among same_name x seen) Parameter x 0 0) (insert_key same_name) repeated_faults repeated-next
-          names i c.loop-index.faults (with_faults c.args.faults.now (repeated_faults c.args.seen.now.keys names)) seen c.check_new.new.seen.keys x c.check_new.new.faults
-          c.loop-index-test.true c.index-names-index.is c.loop-index.invariant.faults c.in_ok-check_new.ensures.faults c.in_ok-check_new.ensures.seen;
+      faults = next_added (λ seen x. fault_if (is_among same_name x seen) Parameter x 0 0) (insert_key same_name)
+          repeated_faults repeated-next
+          names i c.loop-index.faults (with_faults c.args.faults.now (repeated_faults c.args.seen.now.keys names)) seen
+          c.check_new.new.seen.keys x c.check_new.new.faults
+          c.loop-index-test.true c.index-names-index.is c.loop-index.invariant.faults c.in_ok-check_new.ensures.faults
+          c.in_ok-check_new.ensures.seen;
       seen = ap (λ l. with_new same_name l (drop (i + 1) names)) c.in_ok-check_new.ensures.seen
-          ∙ turn (with_new same_name) (insert_key same_name) (with_new-next same_name) names i seen x (with_new same_name c.args.seen.now.keys names) c.loop-index-test.true c.index-names-index.is c.loop-index.invariant.seen;
+          ∙ turn (with_new same_name) (insert_key same_name) (with_new-next same_name) names i seen x
+          (with_new same_name c.args.seen.now.keys names) c.loop-index-test.true c.index-names-index.is
+          c.loop-index.invariant.seen;
     }
 
 pub returns-clause-faults : goal.returns-clause-faults
 returns-clause-faults c =
     all_added (repeated_faults c.loop-index.seen.keys) refl c.args.names.now c.loop-index.index c.loop-index.faults
-    (with_faults c.args.faults.now (repeated_faults c.args.seen.now.keys c.args.names.now)) c.loop-index-test.false c.loop-index.invariant.faults
+    (with_faults c.args.faults.now (repeated_faults c.args.seen.now.keys c.args.names.now)) c.loop-index-test.false
+    c.loop-index.invariant.faults

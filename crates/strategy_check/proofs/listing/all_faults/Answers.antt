@@ -20,7 +20,11 @@ returns g c =
     let third = c.check_modules-3.new.faults in
     let whole : Modules = xs ++ (ys ++ zs) in
     let found : third ≡ with_faults empty (faults_from T P none whole) =
-    modules_added T P none before empty first third xs (ys ++ zs) c.in_ok-check_modules.ensures.faults c.in_ok-check_modules.ensures.earlier
-    (modules_added T P before c.check_modules-2.new.earlier.keys first second third ys zs c.in_ok-check_modules-2.ensures.faults c.in_ok-check_modules-2.ensures.earlier c.in_ok-check_modules-3.ensures.faults) in
+    modules_added T P none before empty first third xs (ys ++ zs) c.in_ok-check_modules.ensures.faults
+    c.in_ok-check_modules.ensures.earlier
+    (modules_added T P before c.check_modules-2.new.earlier.keys first second third ys zs
+    c.in_ok-check_modules-2.ensures.faults c.in_ok-check_modules-2.ensures.earlier
+    c.in_ok-check_modules-3.ensures.faults) in
     c.into_found.ensures ∙ items_taken third c.args.most (faults whole P)
-    (found ∙ (λ i. with_faults (c.new-faults.ensures i) (faults_from (c.in_ok-table.ensures i) P (c.new-earlier.ensures.empty i) whole)))
+    (found ∙ (λ i. with_faults (c.new-faults.ensures i)
+    (faults_from (c.in_ok-table.ensures i) P (c.new-earlier.ensures.empty i) whole)))

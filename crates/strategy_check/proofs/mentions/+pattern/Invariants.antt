@@ -13,4 +13,5 @@ decreases-mention_in_patterns l = 2 * patterns_depth (patterns_of l.patterns.now
 -- the rest gives what the whole gave
 abbrev pub invariant-mention_in_patterns-loop-pattern : goal.invariant-mention_in_patterns-loop-pattern
 invariant-mention_in_patterns-loop-pattern l =
-    mentioned_in_patterns l.mentioned (patterns_of (drop l.pattern-index l.patterns)) ≡ mentioned_in_patterns l.fn.mentioned (patterns_of l.patterns)
+    mentioned_in_patterns l.mentioned (patterns_of (drop l.pattern-index l.patterns))
+    ≡ mentioned_in_patterns l.fn.mentioned (patterns_of l.patterns)

@@ -13,6 +13,7 @@ decreases-mention_in_strategies l = 2 * depths (strategies_of l.strategies.now) 
 -- the rest gives what the whole gave
 abbrev pub invariant-mention_in_strategies-loop-strategy : goal.invariant-mention_in_strategies-loop-strategy
 invariant-mention_in_strategies-loop-strategy l = record {
-  same : mentioned_in_strategies l.fn.names l.mentioned (strategies_of (drop l.strategy-index l.strategies)) ≡ mentioned_in_strategies l.fn.names l.fn.mentioned (strategies_of l.strategies);
+  same : mentioned_in_strategies l.fn.names l.mentioned (strategies_of (drop l.strategy-index l.strategies))
+      ≡ mentioned_in_strategies l.fn.names l.fn.mentioned (strategies_of l.strategies);
   kept : l.names ≡ l.fn.names;
 }

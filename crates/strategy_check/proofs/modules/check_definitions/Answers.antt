@@ -10,12 +10,14 @@ loop-index-preserved g c =
     let one = definition_faults c.args.table.now c.args.primitives.now c.args.earlier.now.keys in
     let ds = c.args.definitions.now in
     let d = c.index-definitions-index.result in
-    item_added (flat_map one) one (λ d ds. refl) ds c.loop-index.index c.loop-index.faults (with_faults c.args.faults.now (flat_map one ds)) d c.check_definition.new.faults
+    item_added (flat_map one) one (λ d ds. refl) ds c.loop-index.index c.loop-index.faults
+    (with_faults c.args.faults.now (flat_map one ds)) d c.check_definition.new.faults
     c.loop-index-test.true c.index-definitions-index.is c.loop-index.invariant
     (c.in_ok-check_definition.ensures ∙ ap (λ m. with_faults m (one d)) c.enter.ensures)
 
 pub returns : goal.returns
 returns g c =
     let one = definition_faults c.args.table.now c.args.primitives.now c.args.earlier.now.keys in
-    all_added (flat_map one) refl c.args.definitions.now c.loop-index.index c.loop-index.faults (with_faults c.args.faults.now (flat_map one c.args.definitions.now))
+    all_added (flat_map one) refl c.args.definitions.now c.loop-index.index c.loop-index.faults
+    (with_faults c.args.faults.now (flat_map one c.args.definitions.now))
     c.loop-index-test.false c.loop-index.invariant

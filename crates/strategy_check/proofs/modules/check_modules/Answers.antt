@@ -20,17 +20,24 @@ loop-index-preserved g c =
     let own = c.definitions-definitions.ensures ∙ ap (λ (m : Module). m.definitions) c.module.ensures in
     let step = c.in_ok-add_definitions.ensures ∙ ap (λ ds. with_new same_key earlier (keys_of ds)) own in
     record {
-      faults = next_added (λ l m. module_faults T P l m.1) (λ l m. with_new same_key l (keys_of m.1.definitions)) (faults_from T P) (λ l m ms. refl)
-          ms i c.loop-index.faults (with_faults c.args.faults.now (faults_from T P c.args.earlier.now.keys ms)) earlier c.add_definitions.new.defined.keys m c.check_definitions.new.faults
+      faults = next_added (λ l m. module_faults T P l m.1) (λ l m. with_new same_key l (keys_of m.1.definitions))
+          (faults_from T P) (λ l m ms. refl)
+          ms i c.loop-index.faults (with_faults c.args.faults.now (faults_from T P c.args.earlier.now.keys ms)) earlier
+          c.add_definitions.new.defined.keys m c.check_definitions.new.faults
           c.loop-index-test.true c.index-modules-index.is c.loop-index.invariant.faults
-          (c.in_ok-check_definitions.ensures ∙ ap (λ ds. with_faults c.loop-index.faults (flat_map (definition_faults T P earlier) ds)) own) step;
+          (c.in_ok-check_definitions.ensures
+          ∙ ap (λ ds. with_faults c.loop-index.faults (flat_map (definition_faults T P earlier) ds)) own) step;
       earlier = ap (λ l. with_new same_key l (keys_of (definitions_of (drop (i + 1) ms)))) step
-          ∙ turn (λ l ms. with_new same_key l (keys_of (definitions_of ms))) (λ l m. with_new same_key l (keys_of m.1.definitions)) later_keys
-          ms i earlier m (with_new same_key c.args.earlier.now.keys (keys_of (definitions_of ms))) c.loop-index-test.true c.index-modules-index.is c.loop-index.invariant.earlier;
+          ∙ turn (λ l ms. with_new same_key l (keys_of (definitions_of ms)))
+          (λ l m. with_new same_key l (keys_of m.1.definitions)) later_keys
+          ms i earlier m (with_new same_key c.args.earlier.now.keys (keys_of (definitions_of ms)))
+          c.loop-index-test.true c.index-modules-index.is c.loop-index.invariant.earlier;
     }
 
 pub returns-clause-faults : goal.returns-clause-faults
 returns-clause-faults g c =
-    all_added (faults_from c.args.table.now c.args.primitives.now c.loop-index.earlier.keys) refl c.args.modules.now c.loop-index.index c.loop-index.faults
-    (with_faults c.args.faults.now (faults_from c.args.table.now c.args.primitives.now c.args.earlier.now.keys c.args.modules.now))
+    all_added (faults_from c.args.table.now c.args.primitives.now c.loop-index.earlier.keys) refl c.args.modules.now
+    c.loop-index.index c.loop-index.faults
+    (with_faults c.args.faults.now
+    (faults_from c.args.table.now c.args.primitives.now c.args.earlier.now.keys c.args.modules.now))
     c.loop-index-test.false c.loop-index.invariant.faults

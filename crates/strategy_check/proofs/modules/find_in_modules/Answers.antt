@@ -10,4 +10,5 @@ returns g c =
     let P = c.args.primitives.now in
     let ms = c.args.modules.now in
     items_taken c.check_modules.new.faults c.args.most (faults_from T P [] ms)
-    (c.in_ok-check_modules.ensures.faults ∙ (λ i. with_faults (c.new-faults.ensures i) (faults_from T P (c.new-earlier.ensures.empty i) ms)))
+    (c.in_ok-check_modules.ensures.faults
+    ∙ (λ i. with_faults (c.new-faults.ensures i) (faults_from T P (c.new-earlier.ensures.empty i) ms)))

@@ -5,8 +5,12 @@ use Rattle.strategy_check.proofs.modules.refuse_modules.Goals as goal
 
 pub returns-clause-none : goal.returns-clause-none
 returns-clause-none g c =
-    refused_none c.into_first.result c.in_ok-faults.faults.items (faults_from c.args.table.now c.args.primitives.now [] c.args.modules.now) c.in_ok-faults.ensures c.into_first.ensures.none
+    refused_none c.into_first.result c.in_ok-faults.faults.items
+    (faults_from c.args.table.now c.args.primitives.now [] c.args.modules.now) c.in_ok-faults.ensures
+    c.into_first.ensures.none
 
 pub returns-clause-first : goal.returns-clause-first
 returns-clause-first g c =
-    refused_first c.into_first.result c.in_ok-faults.faults.items (faults_from c.args.table.now c.args.primitives.now [] c.args.modules.now) c.in_ok-faults.ensures c.into_first.ensures.first
+    refused_first c.into_first.result c.in_ok-faults.faults.items
+    (faults_from c.args.table.now c.args.primitives.now [] c.args.modules.now) c.in_ok-faults.ensures
+    c.into_first.ensures.first

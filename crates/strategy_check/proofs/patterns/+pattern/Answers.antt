@@ -11,13 +11,16 @@ check_patterns-loop-pattern-preserved t c =
     let T = c.args.table.now in
     let b = is_built c.args.used in
     item_added (λ ps. faults_of_patterns T b (patterns_of ps)) (pattern_faults T b) (λ p ps. refl)
-    c.args.patterns.now c.loop-pattern.pattern-index c.loop-pattern.faults (with_faults c.args.faults.now (faults_of_patterns T b (patterns_of c.args.patterns.now)))
-    c.pattern-item.result c.check_pattern.new.faults c.loop-pattern-test.true c.pattern-item.is c.loop-pattern.invariant c.in_ok-check_pattern.ensures
+    c.args.patterns.now c.loop-pattern.pattern-index c.loop-pattern.faults
+    (with_faults c.args.faults.now (faults_of_patterns T b (patterns_of c.args.patterns.now)))
+    c.pattern-item.result c.check_pattern.new.faults c.loop-pattern-test.true c.pattern-item.is c.loop-pattern.invariant
+    c.in_ok-check_pattern.ensures
 
 pub check_patterns-returns : goal.check_patterns-returns
 check_patterns-returns t c =
     let T = c.args.table.now in
     let b = is_built c.args.used in
     all_added (λ ps. faults_of_patterns T b (patterns_of ps)) refl
-    c.args.patterns.now c.loop-pattern.pattern-index c.loop-pattern.faults (with_faults c.args.faults.now (faults_of_patterns T b (patterns_of c.args.patterns.now)))
+    c.args.patterns.now c.loop-pattern.pattern-index c.loop-pattern.faults
+    (with_faults c.args.faults.now (faults_of_patterns T b (patterns_of c.args.patterns.now)))
     c.loop-pattern-test.false c.loop-pattern.invariant

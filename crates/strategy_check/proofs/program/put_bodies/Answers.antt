@@ -10,7 +10,8 @@ returns c =
     let j = i + c.args.gone in
     let numbered = renumbered_definition c.args.numbers.now in
     let left : c.renumber_bodies.new.bodies.items ≡ map numbered (take i old) =
-    c.renumber_bodies.ensures ∙ ap (map numbered) (c.truncate.ensures.items ∙ ap (take i) c.in_ok-last.ensures.items ∙ take-take i j old (omega arith)) in
+    c.renumber_bodies.ensures ∙ ap (map numbered)
+    (c.truncate.ensures.items ∙ ap (take i) c.in_ok-last.ensures.items ∙ take-take i j old (omega arith)) in
     let right : c.renumber_bodies-2.new.bodies.items ≡ map numbered (drop j old) =
     c.renumber_bodies-2.ensures ∙ ap (map numbered) c.in_ok-last.ensures.tail in
     rw (left, right) at c.append_both.ensures

@@ -24,4 +24,9 @@ pub returns : goal.returns
 returns c =
     c.loop-i.invariant
     ∙ partly-all (renumbered_definition c.args.numbers.now) c.loop-i.i c.args.bodies.now.items
-    (omega (arith, c.loop-i-test.false, ap length c.loop-i.invariant, partly-length (renumbered_definition c.args.numbers.now) c.loop-i.i c.args.bodies.now.items))
+    (omega (
+      arith,
+      c.loop-i-test.false,
+      ap length c.loop-i.invariant,
+      partly-length (renumbered_definition c.args.numbers.now) c.loop-i.i c.args.bodies.now.items,
+    ))

@@ -9,7 +9,8 @@ use Rattle.strategy_check.proofs.program.resolve.Goals as goal
 pub returns-clause-faultless : goal.returns-clause-faultless
 returns-clause-faultless g c =
     let table = ap (λ (p : Program). p.table) c.program.view_is in
-    ap (λ T. strategy_faults T c.args.primitives.now [] c.args.strategy.now) (sym table) ∙ c.in_ok-refuse_strategy.ensures.none
+    ap (λ T. strategy_faults T c.args.primitives.now [] c.args.strategy.now) (sym table)
+    ∙ c.in_ok-refuse_strategy.ensures.none
 
 pub returns-in_err-refuse_strategy-clause-fault : goal.returns-in_err-refuse_strategy-clause-fault
 returns-in_err-refuse_strategy-clause-fault g c =
@@ -27,5 +28,6 @@ returns-clause-in_range g c =
     let P = c.args.primitives.now in
     let s = c.args.strategy.now in
     let table = ap (λ (p : Program). p.table) c.program.view_is in
-    subst (IsInRange p P 0 0) (sym (c.in_ok-whole.ensures ∙ ap (λ T. resolved (record { table = T; bodies = [] }) P s) table))
+    subst (IsInRange p P 0 0)
+    (sym (c.in_ok-whole.ensures ∙ ap (λ T. resolved (record { table = T; bodies = [] }) P s) table))
     (resolved_range p P s (returns-clause-faultless g c))

@@ -13,5 +13,7 @@ returns g c =
     λ i. record {
       variables = count i;
       strategy = (c.in_ok-strategy.ensures.resolved
-          ∙ (λ j. resolved_strategy c.args.table.now c.args.primitives.now ((c.new-scope.ensures ∙ (λ k. record { variables = found k; count = count k; names = c.new.ensures k })) j) c.args.strategy.now)) i;
+          ∙ (λ j. resolved_strategy c.args.table.now c.args.primitives.now
+          ((c.new-scope.ensures ∙ (λ k. record { variables = found k; count = count k; names = c.new.ensures k })) j)
+          c.args.strategy.now)) i;
     }

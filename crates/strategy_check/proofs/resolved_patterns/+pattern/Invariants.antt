@@ -13,4 +13,5 @@ decreases-resolve_patterns l = 2 * patterns_depth (patterns_of l.patterns.now) +
 
 abbrev pub invariant-resolve_patterns-loop-pattern : goal.invariant-resolve_patterns-loop-pattern
 invariant-resolve_patterns-loop-pattern l =
-    resolved_patterns_of l.resolved.items ≡ resolved_patterns l.scope.variables (patterns_of (take l.pattern-index l.patterns))
+    resolved_patterns_of l.resolved.items
+    ≡ resolved_patterns l.scope.variables (patterns_of (take l.pattern-index l.patterns))

@@ -10,12 +10,18 @@ check_strategies-loop-strategy-preserved g t c =
     let T = c.args.table.now in
     let P = c.args.primitives.now in
     let names = c.args.names.now in
-    let added : c.check_strategy.new.faults ≡ with_faults c.loop-strategy.faults (strategy_faults T P names c.strategy-item.result) =
-    c.in_ok-check_strategy.ensures.faults ∙ ap (λ bs. with_faults c.loop-strategy.faults (strategy_faults T P bs c.strategy-item.result)) c.loop-strategy.invariant.names in
+    let added : c.check_strategy.new.faults
+    ≡ with_faults c.loop-strategy.faults (strategy_faults T P names c.strategy-item.result) =
+    c.in_ok-check_strategy.ensures.faults
+    ∙ ap (λ bs. with_faults c.loop-strategy.faults (strategy_faults T P bs c.strategy-item.result))
+    c.loop-strategy.invariant.names in
     record {
-      faults = item_added (λ ss. faults_of_strategies T P names (strategies_of ss)) (strategy_faults T P names) (λ s ss. refl)
-          c.args.strategies.now c.loop-strategy.strategy-index c.loop-strategy.faults (with_faults c.args.faults.now (faults_of_strategies T P names (strategies_of c.args.strategies.now)))
-          c.strategy-item.result c.check_strategy.new.faults c.loop-strategy-test.true c.strategy-item.is c.loop-strategy.invariant.faults added;
+      faults = item_added (λ ss. faults_of_strategies T P names (strategies_of ss)) (strategy_faults T P names)
+          (λ s ss. refl)
+          c.args.strategies.now c.loop-strategy.strategy-index c.loop-strategy.faults
+          (with_faults c.args.faults.now (faults_of_strategies T P names (strategies_of c.args.strategies.now)))
+          c.strategy-item.result c.check_strategy.new.faults c.loop-strategy-test.true c.strategy-item.is
+          c.loop-strategy.invariant.faults added;
       names = c.in_ok-check_strategy.ensures.names ∙ c.loop-strategy.invariant.names;
     }
 
@@ -25,5 +31,6 @@ check_strategies-returns-clause-faults g t c =
     let P = c.args.primitives.now in
     let names = c.args.names.now in
     all_added (λ ss. faults_of_strategies T P names (strategies_of ss)) refl
-    c.args.strategies.now c.loop-strategy.strategy-index c.loop-strategy.faults (with_faults c.args.faults.now (faults_of_strategies T P names (strategies_of c.args.strategies.now)))
+    c.args.strategies.now c.loop-strategy.strategy-index c.loop-strategy.faults
+    (with_faults c.args.faults.now (faults_of_strategies T P names (strategies_of c.args.strategies.now)))
     c.loop-strategy-test.false c.loop-strategy.invariant.faults

@@ -14,7 +14,8 @@ decreases-check_strategies g l = 2 * depths (strategies_of l.strategies.now) + 1
 -- the faults of the rest make those of the whole, and the names are the same as before
 abbrev pub invariant-check_strategies-loop-strategy : goal.invariant-check_strategies-loop-strategy
 invariant-check_strategies-loop-strategy g l = record {
-  faults : with_faults l.faults (faults_of_strategies l.table l.primitives l.fn.names (strategies_of (drop l.strategy-index l.strategies)))
+  faults : with_faults l.faults
+      (faults_of_strategies l.table l.primitives l.fn.names (strategies_of (drop l.strategy-index l.strategies)))
       ≡ with_faults l.fn.faults (faults_of_strategies l.table l.primitives l.fn.names (strategies_of l.strategies));
   names : l.names ≡ l.fn.names;
 }

@@ -10,4 +10,5 @@ returns g c =
     let P = c.args.primitives.now in
     let s = c.args.strategy.now in
     items_taken c.check_strategy.new.faults c.args.most (strategy_faults T P [] s)
-    (c.in_ok-check_strategy.ensures.faults ∙ (λ i. with_faults (c.new-faults.ensures i) (strategy_faults T P (c.new-names.ensures i) s)))
+    (c.in_ok-check_strategy.ensures.faults
+    ∙ (λ i. with_faults (c.new-faults.ensures i) (strategy_faults T P (c.new-names.ensures i) s)))

@@ -15,7 +15,10 @@ loop-definition-preserved c =
     }) in
     let keys : c.insert.new.self.keys ≡ insert_key same_key c.loop-definition.defined.keys (key_of d) =
     c.in_ok-insert.ensures.keys ∙ ap (insert_key same_key c.loop-definition.defined.keys) key in
-    ap (λ ks. with_new same_key ks (keys_of (drop (c.loop-definition.definition-index + 1) c.args.definitions.now))) keys
-    ∙ turn (λ ks ds. with_new same_key ks (keys_of ds)) (λ ks d. insert_key same_key ks (key_of d)) (λ ks d ds. with_new-next same_key ks (key_of d) (keys_of ds))
-    c.args.definitions.now c.loop-definition.definition-index c.loop-definition.defined.keys d (with_new same_key c.args.defined.now.keys (keys_of c.args.definitions.now))
+    ap
+    (λ ks. with_new same_key ks (keys_of (drop (c.loop-definition.definition-index + 1) c.args.definitions.now))) keys
+    ∙ turn (λ ks ds. with_new same_key ks (keys_of ds)) (λ ks d. insert_key same_key ks (key_of d))
+    (λ ks d ds. with_new-next same_key ks (key_of d) (keys_of ds))
+    c.args.definitions.now c.loop-definition.definition-index c.loop-definition.defined.keys d
+    (with_new same_key c.args.defined.now.keys (keys_of c.args.definitions.now))
     c.loop-definition-test.true c.definition-item.is c.loop-definition.invariant

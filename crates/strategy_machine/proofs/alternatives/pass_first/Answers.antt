@@ -22,7 +22,8 @@ first-preserved c = record {
       let before = c.first.invariant.same t h in
       let is = c.form.ensures ∙ ap resolved_of c.in-Guard.is in
       let last = ap (λ x. x.2) (sym c.deref.ensures) in
-      let both = passes_first c.first.strategy.now c.in-Guard.parts.value.0 c.in-Guard.parts.value.1 c.in-Guard.parts.value.2 (c.first.rest - 1) c.first.rest c.first.left (c.first.left - 4) t
+      let both = passes_first c.first.strategy.now c.in-Guard.parts.value.0 c.in-Guard.parts.value.1
+      c.in-Guard.parts.value.2 (c.first.rest - 1) c.first.rest c.first.left (c.first.left - 4) t
       is (omega arith) (omega arith) before.1 in (
         passes_more _ _ _ _ _ _ t before.0 (passes_as _ _ _ _ _ _ t refl last both.0),
         subst (λ (s : ResolvedStrategy). SkipsOver (c.first.rest - 1) s t) last both.1,

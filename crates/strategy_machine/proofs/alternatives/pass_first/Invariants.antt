@@ -10,5 +10,6 @@ decreases-first l = l.rest
 abbrev pub invariant-first : goal.invariant-first
 invariant-first l = record {
   less : l.left ≤ l.fn.steps;
-  same : (t : Tree) → SkipsOver l.fn.count l.fn.strategy t → Passes l.fn.strategy l.fn.steps t l.strategy l.left × SkipsOver l.rest l.strategy t;
+  same : (t : Tree) → SkipsOver l.fn.count l.fn.strategy t
+      → Passes l.fn.strategy l.fn.steps t l.strategy l.left × SkipsOver l.rest l.strategy t;
 }

@@ -32,14 +32,20 @@ rules-preserved c =
     elim c.if-count-eq0.branch [
       | then-count-eq0+in-Some+else-not-rules_out w ↦ record {
         less = omega (arith, c.rules.invariant.less, c.pass_first-passed.ensures.less);
-        same = and_then_first _ c.rules.strategy.now v.2 _ _ c.args.steps left (left - 4) _ (n - 1) t last c.rules.invariant.same
-            (passes_as _ _ _ _ _ _ t is refl (passes_rule v.0 v.1 v.2 w.in-Some.ensures.1 w.in-Some.ensures.0 w.in-Some.pattern.now left (left - 4) t
-            (ap (λ x. x.0) (sym w.deref.ensures) ∙ w.in-Some.ensures.2) (omega (arith, c.rules-test.true)) (w.if-not-rules_out.ensures t c.kind-kind.ensures)))
+        same = and_then_first _ c.rules.strategy.now v.2 _ _ c.args.steps left (left - 4) _ (n - 1) t last
+            c.rules.invariant.same
+            (passes_as _ _ _ _ _ _ t is refl
+            (passes_rule v.0 v.1 v.2 w.in-Some.ensures.1 w.in-Some.ensures.0 w.in-Some.pattern.now left (left - 4) t
+            (ap (λ x. x.0) (sym w.deref.ensures) ∙ w.in-Some.ensures.2) (omega (arith, c.rules-test.true))
+            (w.if-not-rules_out.ensures t c.kind-kind.ensures)))
             (skips_no_more (n - 1) v.2 t (omega (arith, w.count-is))) c.pass_first-passed.ensures.same;
       }
       | else-count-eq0 w ↦
-          let both = passes_first c.rules.strategy.now v.0 v.1 v.2 (n - 1) c.skipped-count.result left (left - 4) t is (omega (arith, w.count-is, w.if-count-eq0.false)) (omega (arith, c.rules-test.true)) c.skipped-count.ensures in record {
+          let both = passes_first c.rules.strategy.now v.0 v.1 v.2 (n - 1) c.skipped-count.result left (left - 4) t is
+          (omega (arith, w.count-is, w.if-count-eq0.false)) (omega (arith, c.rules-test.true))
+          c.skipped-count.ensures in record {
             less = omega (arith, c.rules.invariant.less, c.pass_first-passed.ensures.less);
-            same = and_then_first _ c.rules.strategy.now v.2 _ _ c.args.steps left (left - 4) _ (n - 1) t last c.rules.invariant.same both.0 both.1 c.pass_first-passed.ensures.same;
+            same = and_then_first _ c.rules.strategy.now v.2 _ _ c.args.steps left (left - 4) _ (n - 1) t last
+                c.rules.invariant.same both.0 both.1 c.pass_first-passed.ensures.same;
           }
     ]

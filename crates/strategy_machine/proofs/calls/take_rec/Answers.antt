@@ -20,11 +20,26 @@ returns-clause-ok c = λ W. record {
       c.begins.ensures.keeps W sub whole (let r = c.in_ok-end_scopes.ensures in
       let mid = c.end_scopes.new.m in
       let es = scopes c.add_name.new.self in
-      let there : State = record { cells = mid.cells; scopes = es; trail = mid.trail; level = mid.level; frames = reverse mid.frames; steps = mid.steps } in
+      let there : State = record {
+        cells = mid.cells;
+        scopes = es;
+        trail = mid.trail;
+        level = mid.level;
+        frames = reverse mid.frames;
+        steps = mid.steps;
+      } in
       subst (λ (q : Standing). HoldsIn W sub whole there (Begin c.args.body c.in_ok-inner.inner q)) (sym r.part) (
       subst (λ (S : State). HoldsIn W sub whole S (Begin c.args.body c.in_ok-inner.inner c.args.m.now.part))
-      (λ i. record { cells = sym r.rest.0 i; scopes = es; trail = sym r.rest.1 i; level = sym r.rest.3 i; frames = reverse mid.frames; steps = sym r.rest.4 i })
-      (take_named W sub whole (state_of c.args.m.now) c.args.whole c.args.body c.args.scope c.in_ok-inner.inner c.args.m.now.part (scopes mid.scopes) es (frames_of mid)
+      (λ i. record {
+        cells = sym r.rest.0 i;
+        scopes = es;
+        trail = sym r.rest.1 i;
+        level = sym r.rest.3 i;
+        frames = reverse mid.frames;
+        steps = sym r.rest.4 i;
+      })
+      (take_named W sub whole (state_of c.args.m.now) c.args.whole c.args.body c.args.scope c.in_ok-inner.inner
+      c.args.m.now.part (scopes mid.scopes) es (frames_of mid)
       c.requires.whole c.in_ok-inner.ensures.number r.same c.in_ok-inner.ensures.ok
       (λ a x. r.room W sub whole c.args.m.now.part a x es (one_more_starts _ _ _ c.in_ok-inner.ensures.ok)) h)));
 }

@@ -22,15 +22,33 @@ returns-clause-ok c = λ V. let W = in_room c.args.room V in record {
       let mid = c.end_cells.new.m in
       let es = scopes c.add_variables.new.self in
       let D = c.open_cells.new.self in
-      let there : State = record { cells = D; scopes = es; trail = mid.trail; level = mid.level; frames = reverse mid.frames; steps = mid.steps } in
+      let there : State = record {
+        cells = D;
+        scopes = es;
+        trail = mid.trail;
+        level = mid.level;
+        frames = reverse mid.frames;
+        steps = mid.steps;
+      } in
       subst (λ (q : Standing). HoldsIn W sub whole there (Begin c.args.strategy c.in_ok-inner.inner q)) (sym r.part) (
       subst (λ (S : State). HoldsIn W sub whole S (Begin c.args.strategy c.in_ok-inner.inner c.args.m.now.part))
-      (λ i. record { cells = D; scopes = es; trail = sym r.rest.1 i; level = sym r.rest.3 i; frames = reverse mid.frames; steps = sym r.rest.4 i })
-      (take_opened W sub whole (state_of c.args.m.now) _ c.args.strategy c.args.scope c.in_ok-inner.inner c.args.m.now.part (with_variables (scope_at (scopes c.args.m.now.scopes) c.args.scope) (length c.args.m.now.cells.bindings) c.args.count) (replicate c.args.count None)
+      (λ i. record {
+        cells = D;
+        scopes = es;
+        trail = sym r.rest.1 i;
+        level = sym r.rest.3 i;
+        frames = reverse mid.frames;
+        steps = sym r.rest.4 i;
+      })
+      (take_opened W sub whole (state_of c.args.m.now) _ c.args.strategy c.args.scope c.in_ok-inner.inner
+      c.args.m.now.part (with_variables (scope_at (scopes c.args.m.now.scopes) c.args.scope)
+      (length c.args.m.now.cells.bindings) c.args.count) (replicate c.args.count None)
       D es (frames_of mid) refl
       (one_more_there _ _ _ c.in_ok-inner.ensures.number c.in_ok-inner.ensures.ok)
-      (one_more_is _ _ _ c.in_ok-inner.ensures.number c.in_ok-inner.ensures.ok ∙ (λ i. with_variables (r.same i) (c.count-first.ensures i) c.args.count))
+      (one_more_is _ _ _ c.in_ok-inner.ensures.number c.in_ok-inner.ensures.ok
+      ∙ (λ i. with_variables (r.same i) (c.count-first.ensures i) c.args.count))
       (c.in_ok-open_cells.ensures.ok ∙ ap (λ (C : CellContents). C.bindings ++ replicate c.args.count None) r.rest.0)
       (λ a k x. r.room W sub whole c.args.m.now.part a x D es (one_more_starts _ _ _ c.in_ok-inner.ensures.ok)
-      (subst (λ (C : CellContents). Before (mark_of C) (mark_of D)) r.rest.0 c.open_cells.ensures.later) (subst (λ (C : CellContents). Stays (mark_of C) C D) r.rest.0 c.open_cells.ensures.stays)) h)));
+      (subst (λ (C : CellContents). Before (mark_of C) (mark_of D)) r.rest.0 c.open_cells.ensures.later)
+      (subst (λ (C : CellContents). Stays (mark_of C) C D) r.rest.0 c.open_cells.ensures.stays)) h)));
 }

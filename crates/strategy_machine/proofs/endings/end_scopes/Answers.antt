@@ -12,9 +12,12 @@ pub returns-in-Some : goal.returns-in-Some
 returns-in-Some c =
     let m = c.args.m.now in
     record {
-      there = still_there c.args.scope c.needed.result (scopes m.scopes) (scopes c.cut.new.self) c.requires c.needed.ensures.scope c.cut.ensures;
-      same = still_same c.args.scope c.needed.result (scopes m.scopes) (scopes c.cut.new.self) c.needed.ensures.scope c.cut.ensures;
-      room = λ W sub whole p a h es st. leave_kept W sub whole (state_of m) p a c.in-Some.left c.needed.result (scopes c.cut.new.self) es
+      there = still_there c.args.scope c.needed.result (scopes m.scopes) (scopes c.cut.new.self) c.requires
+          c.needed.ensures.scope c.cut.ensures;
+      same = still_same c.args.scope c.needed.result (scopes m.scopes) (scopes c.cut.new.self) c.needed.ensures.scope
+          c.cut.ensures;
+      room = λ W sub whole p a h es st.
+          leave_kept W sub whole (state_of m) p a c.in-Some.left c.needed.result (scopes c.cut.new.self) es
           c.in-Some.ensures c.needed.ensures.left c.cut.ensures st h;
       part = refl;
       rest = (refl, refl, refl, refl, refl);
@@ -29,7 +32,8 @@ returns-in_ok-wait-in-None c =
       same = refl;
       room = λ W sub whole p a h es st.
           subst (λ (fs : List Frame). AnswersIn W sub whole (with_those (state_of m) m.cells es fs) p a)
-          (sym (pushed _ _ _ c.in_ok-wait-in-None.ensures.items ∙ (λ i. Leave (c.count-scopes.ensures i) ∷ reverse m.frames)))
+          (sym (pushed _ _ _ c.in_ok-wait-in-None.ensures.items
+          ∙ (λ i. Leave (c.count-scopes.ensures i) ∷ reverse m.frames)))
           (leave_pushed W sub whole (state_of m) p a es st h);
       part = refl;
       rest = (refl, refl, refl, refl, refl);

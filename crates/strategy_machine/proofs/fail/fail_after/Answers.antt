@@ -10,4 +10,9 @@ pub pop_first-node-requires : goal.pop_first-node-requires
 pop_first-node-requires c = (slots.After c.args.edits, c.requires, refl)
 
 pub returns-clause-ok : goal.returns-clause-ok
-returns-clause-ok c = λ W. record { keeps = λ sub whole h. c.fails.ensures.keeps W sub whole (fail_after W sub whole _ _ _ _ _ _ _ _ _ c.args.edits c.cut.ensures (popped W sub whole c.args.m.now Failed c.pop_first-node.new.self (frames.After c.pop_first-node.result.node c.pop_first-node.result.part c.args.edits) (c.pop_first-node.ensures.items (slots.After c.args.edits) c.requires) h)) }
+returns-clause-ok c = λ W. record {
+  keeps = λ sub whole h. c.fails.ensures.keeps W sub whole
+      (fail_after W sub whole _ _ _ _ _ _ _ _ _ c.args.edits c.cut.ensures (popped W sub whole c.args.m.now Failed
+      c.pop_first-node.new.self (frames.After c.pop_first-node.result.node c.pop_first-node.result.part c.args.edits)
+      (c.pop_first-node.ensures.items (slots.After c.args.edits) c.requires) h));
+}

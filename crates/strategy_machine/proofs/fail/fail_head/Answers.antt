@@ -10,4 +10,9 @@ pub pop_walk-walk-requires : goal.pop_walk-walk-requires
 pop_walk-walk-requires c = (slots.Head c.requires.0 c.requires.1, c.requires.2, refl)
 
 pub returns-clause-ok : goal.returns-clause-ok
-returns-clause-ok c = λ W. record { keeps = λ sub whole h. c.fails.ensures.keeps W sub whole (fail_head W sub whole _ _ _ _ _ _ _ _ _ c.pop_walk-walk.result c.cut.ensures (popped W sub whole c.args.m.now Failed c.pop_walk-walk.new.self (frames.Head c.requires.0 c.requires.1 c.pop_walk-walk.result) (c.pop_walk-walk.ensures.items (slots.Head c.requires.0 c.requires.1) c.requires.2) h)) }
+returns-clause-ok c = λ W. record {
+  keeps = λ sub whole h. c.fails.ensures.keeps W sub whole
+      (fail_head W sub whole _ _ _ _ _ _ _ _ _ c.pop_walk-walk.result c.cut.ensures (popped W sub whole c.args.m.now
+      Failed c.pop_walk-walk.new.self (frames.Head c.requires.0 c.requires.1 c.pop_walk-walk.result)
+      (c.pop_walk-walk.ensures.items (slots.Head c.requires.0 c.requires.1) c.requires.2) h));
+}

@@ -10,7 +10,9 @@ returns c =
     record {
       node = c.replace-child.ensures.after;
       parts = (λ j. all_parts (sym c.replace-child.ensures.after j) c.settle.new.parts.items) ∙ c.in_ok-settle.ensures
-          ∙ (λ j. cond (not (c.args.m.now.trail.count == w.edits)) (slice_set (parts_now (c.replace-child.ensures.after j) (all_parts (c.replace-child.ensures.after j) w.parts.items)) w.index (c.replace-child.ensures.value j)) (all_parts (c.replace-child.ensures.after j) w.parts.items));
+          ∙ (λ j. cond (not (c.args.m.now.trail.count == w.edits)) (slice_set
+          (parts_now (c.replace-child.ensures.after j) (all_parts (c.replace-child.ensures.after j) w.parts.items))
+          w.index (c.replace-child.ensures.value j)) (all_parts (c.replace-child.ensures.after j) w.parts.items));
       level = refl;
       rest = (refl, refl, refl, refl, refl);
     }
@@ -21,7 +23,8 @@ returns-then-not-changed c =
     record {
       node = c.put.ensures;
       parts = (λ j. all_parts w.node (c.put_parts.ensures j).items)
-          ∙ ap (λ (b : Bool). cond (not b) (slice_set (parts_now w.node (walk_parts w)) w.index c.args.m.now.part) (walk_parts w)) (sym (eq-eqb c.args.m.now.trail.count w.edits c.if-not-changed.true));
+          ∙ ap (λ (b : Bool). cond (not b) (slice_set (parts_now w.node (walk_parts w)) w.index c.args.m.now.part)
+          (walk_parts w)) (sym (eq-eqb c.args.m.now.trail.count w.edits c.if-not-changed.true));
       level = refl;
       rest = (refl, refl, refl, refl, refl);
     }

@@ -13,6 +13,11 @@ pop_start-part-requires c = (slots.Restore, c.requires, refl)
 
 pub returns-clause-ok : goal.returns-clause-ok
 returns-clause-ok c = λ W. record {
-  keeps = λ sub whole h. c.gives.ensures.keeps W sub whole (subst (λ p. HoldsIn W sub whole (st c.args.m.now.cells (scopes c.args.m.now.scopes) c.cut.new.self c.args.m.now.level c.args.m.now.steps (reverse c.pop_start-part.new.self)) (Done p)) (sym c.put.ensures)
-      (give_test W sub whole _ _ _ _ _ _ _ c.pop_start-part.result.part c.args.m.now.part c.pop_start-part.result.edits c.cut.ensures (popped W sub whole c.args.m.now (Done c.args.m.now.part) c.pop_start-part.new.self (frames.Restore c.pop_start-part.result.part c.pop_start-part.result.edits) (c.pop_start-part.ensures.items (slots.Restore) c.requires) h)));
+  keeps = λ sub whole h. c.gives.ensures.keeps W sub whole
+      (subst (λ p. HoldsIn W sub whole (st c.args.m.now.cells (scopes c.args.m.now.scopes) c.cut.new.self
+      c.args.m.now.level c.args.m.now.steps (reverse c.pop_start-part.new.self)) (Done p)) (sym c.put.ensures)
+      (give_test W sub whole _ _ _ _ _ _ _ c.pop_start-part.result.part c.args.m.now.part c.pop_start-part.result.edits
+      c.cut.ensures (popped W sub whole c.args.m.now (Done c.args.m.now.part) c.pop_start-part.new.self
+      (frames.Restore c.pop_start-part.result.part c.pop_start-part.result.edits)
+      (c.pop_start-part.ensures.items (slots.Restore) c.requires) h)));
 }

@@ -14,16 +14,24 @@ use Rattle.strategy_machine.proofs.lists.give_after.Goals as goal
 
 pub returns-then-not-is_list-clause-ok : goal.returns-then-not-is_list-clause-ok
 returns-then-not-is_list-clause-ok c = λ W. record {
-  keeps = λ sub whole h. c.fails.ensures.keeps W sub whole (after_fails W sub whole _ _ _ _ _ _ _ c.pop_first-node.result.node c.pop_first-node.result.part c.args.edits c.args.m.now.part c.cut.ensures
+  keeps = λ sub whole h. c.fails.ensures.keeps W sub whole (after_fails W sub whole _ _ _ _ _ _ _
+      c.pop_first-node.result.node c.pop_first-node.result.part c.args.edits c.args.m.now.part c.cut.ensures
       (ap (λ (q : Standing). elements (standing_tree q)) (sym c.replace-rest.ensures.value) ∙ c.is_list.ensures
-      ∙ ap (λ (b : Bool). cond b (Some (children (standing_tree c.replace-rest.result))) None) c.if-not-is_list.true) (popped W sub whole c.args.m.now (Done c.args.m.now.part) c.pop_first-node.new.self (frames.After c.pop_first-node.result.node c.pop_first-node.result.part c.args.edits) (c.pop_first-node.ensures.items (slots.After c.args.edits) c.requires.last) h));
+      ∙ ap (λ (b : Bool). cond b (Some (children (standing_tree c.replace-rest.result))) None) c.if-not-is_list.true)
+      (popped W sub whole c.args.m.now (Done c.args.m.now.part) c.pop_first-node.new.self
+      (frames.After c.pop_first-node.result.node c.pop_first-node.result.part c.args.edits)
+      (c.pop_first-node.ensures.items (slots.After c.args.edits) c.requires.last) h));
 }
 
 pub after_first-requires : goal.after_first-requires
 after_first-requires c =
     let r = c.requires.run in
-    subst (λ (q : Standing). elements (standing_tree q) ≡ Some (children (standing_tree q))) (sym c.replace-rest.ensures.after)
-    (after_list r.0 r.1 r.2 _ _ _ _ _ _ c.pop_first-node.result.node c.pop_first-node.result.part c.args.edits c.args.m.now.part (popped r.0 r.1 r.2 c.args.m.now (Done c.args.m.now.part) c.pop_first-node.new.self (frames.After c.pop_first-node.result.node c.pop_first-node.result.part c.args.edits) (c.pop_first-node.ensures.items (slots.After c.args.edits) c.requires.last) r.3))
+    subst (λ (q : Standing). elements (standing_tree q) ≡ Some (children (standing_tree q)))
+    (sym c.replace-rest.ensures.after)
+    (after_list r.0 r.1 r.2 _ _ _ _ _ _ c.pop_first-node.result.node c.pop_first-node.result.part c.args.edits
+    c.args.m.now.part (popped r.0 r.1 r.2 c.args.m.now (Done c.args.m.now.part) c.pop_first-node.new.self
+    (frames.After c.pop_first-node.result.node c.pop_first-node.result.part c.args.edits)
+    (c.pop_first-node.ensures.items (slots.After c.args.edits) c.requires.last) r.3))
 
 pub returns-clause-ok : goal.returns-clause-ok
 returns-clause-ok c =
@@ -31,12 +39,24 @@ returns-clause-ok c =
     let part = c.replace-rest.ensures.value in
     let ps = first_part c.pop_first-node.result.part in
     λ W. record {
-      keeps = λ sub whole h. c.gives.ensures.keeps W sub whole (was_put W sub whole _ c.replace.new.m c.in_ok-whole.whole c.replace.new.m.part c.in_ok-replace.ensures
-          (give_after W sub whole _ _ _ _ _ _ _ _ c.pop_first-node.result.node c.pop_first-node.result.part c.args.edits c.args.m.now.part c.replace.new.m.part c.in_ok-whole.whole c.cut.ensures c.in_ok-replace.ensures.shows
+      keeps = λ sub whole h. c.gives.ensures.keeps W sub whole
+          (was_put W sub whole _ c.replace.new.m c.in_ok-whole.whole c.replace.new.m.part c.in_ok-replace.ensures
+          (give_after W sub whole _ _ _ _ _ _ _ _ c.pop_first-node.result.node c.pop_first-node.result.part c.args.edits
+          c.args.m.now.part c.replace.new.m.part c.in_ok-whole.whole c.cut.ensures c.in_ok-replace.ensures.shows
           (ap (λ (q : Standing). elements (standing_tree q)) (sym part) ∙ c.is_list.ensures
-          ∙ ap (λ (b : Bool). cond b (Some (children (standing_tree c.replace-rest.result))) None) c.if-not-is_list.false ∙ ap (λ (q : Standing). Some (children (standing_tree q))) part)
-          (c.in_ok-whole.ensures ∙ (λ i. with_children (standing_tree (node i)) (take 1 (map standing_tree (parts_now (node i) (all_parts (node i) ps))) ++ children (standing_tree (part i))))
-          ∙ rest_put c.pop_first-node.result.node (all_parts c.pop_first-node.result.node ps) 1 (children (standing_tree c.args.m.now.part)) (after_stands W sub whole _ _ _ _ _ _ c.pop_first-node.result.node c.pop_first-node.result.part c.args.edits c.args.m.now.part (popped W sub whole c.args.m.now (Done c.args.m.now.part) c.pop_first-node.new.self (frames.After c.pop_first-node.result.node c.pop_first-node.result.part c.args.edits) (c.pop_first-node.ensures.items (slots.After c.args.edits) c.requires.last) h))) c.in_ok-replace.ensures.part (popped W sub whole c.args.m.now (Done c.args.m.now.part) c.pop_first-node.new.self (frames.After c.pop_first-node.result.node c.pop_first-node.result.part c.args.edits) (c.pop_first-node.ensures.items (slots.After c.args.edits) c.requires.last) h)));
+          ∙ ap (λ (b : Bool). cond b (Some (children (standing_tree c.replace-rest.result))) None)
+          c.if-not-is_list.false ∙ ap (λ (q : Standing). Some (children (standing_tree q))) part)
+          (c.in_ok-whole.ensures ∙ (λ i. with_children (standing_tree (node i)) (take 1
+          (map standing_tree (parts_now (node i) (all_parts (node i) ps))) ++ children (standing_tree (part i))))
+          ∙ rest_put c.pop_first-node.result.node (all_parts c.pop_first-node.result.node ps) 1
+          (children (standing_tree c.args.m.now.part))
+          (after_stands W sub whole _ _ _ _ _ _ c.pop_first-node.result.node c.pop_first-node.result.part c.args.edits
+          c.args.m.now.part (popped W sub whole c.args.m.now (Done c.args.m.now.part) c.pop_first-node.new.self
+          (frames.After c.pop_first-node.result.node c.pop_first-node.result.part c.args.edits)
+          (c.pop_first-node.ensures.items (slots.After c.args.edits) c.requires.last) h))) c.in_ok-replace.ensures.part
+          (popped W sub whole c.args.m.now (Done c.args.m.now.part) c.pop_first-node.new.self
+          (frames.After c.pop_first-node.result.node c.pop_first-node.result.part c.args.edits)
+          (c.pop_first-node.ensures.items (slots.After c.args.edits) c.requires.last) h)));
     }
 
 pub pop_first-node-requires : goal.pop_first-node-requires

@@ -11,7 +11,8 @@ abbrev pub invariant-through : goal.invariant-through
 invariant-through g l =
     let W = world_of g.M.Meaning.meaning l.host.definitions.now l.host.primitives.now l.host.room in
     (l.scope < length (scopes l.scopes)) × (l.left ≤ l.steps)
-    × ((k : ℕ) (B : Bindings) (t : Tree) → run W (scope_at (scopes l.scopes) l.fn.scope) k l.fn.strategy l.steps B t ≡ run W (scope_at (scopes l.scopes) l.scope) k l.strategy l.left B t)
+    × ((k : ℕ) (B : Bindings) (t : Tree) → run W (scope_at (scopes l.scopes) l.fn.scope) k l.fn.strategy l.steps B t
+    ≡ run W (scope_at (scopes l.scopes) l.scope) k l.strategy l.left B t)
 
 abbrev pub decreases-through : goal.decreases-through
 decreases-through g l = l.left

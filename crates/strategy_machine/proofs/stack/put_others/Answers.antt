@@ -5,4 +5,5 @@ use Rattle.strategy_machine.proofs.stack.put_others.Goals as goal
 
 pub returns-in-List : goal.returns-in-List
 returns-in-List c = λ front acts e stays.
-    set_last front c.args.slots.now.items (Each acts c.args.scope) (Each c.args.others c.args.scope) (c.len-last.result - 1) e (omega (arith, c.args.slots.now.ok.0, c.requires))
+    set_last front c.args.slots.now.items (Each acts c.args.scope) (Each c.args.others c.args.scope)
+    (c.len-last.result - 1) e (omega (arith, c.args.slots.now.ok.0, c.requires))

@@ -13,4 +13,5 @@ decreases-meet_in_patterns l = 2 * patterns_depth (patterns_of l.patterns.now) +
 -- the rest gives what the whole gave
 abbrev pub invariant-meet_in_patterns-loop-pattern : goal.invariant-meet_in_patterns-loop-pattern
 invariant-meet_in_patterns-loop-pattern l =
-    met_in_patterns l.hidden l.first l.found (patterns_of (drop l.pattern-index l.patterns)) ≡ met_in_patterns l.hidden l.first l.fn.found (patterns_of l.patterns)
+    met_in_patterns l.hidden l.first l.found (patterns_of (drop l.pattern-index l.patterns))
+    ≡ met_in_patterns l.hidden l.first l.fn.found (patterns_of l.patterns)

@@ -13,6 +13,7 @@ decreases-meet_in_strategies l = 2 * depths (strategies_of l.strategies.now) + 1
 -- the rest gives what the whole gave
 abbrev pub invariant-meet_in_strategies-loop-strategy : goal.invariant-meet_in_strategies-loop-strategy
 invariant-meet_in_strategies-loop-strategy l = record {
-  same : met_in_strategies l.fn.hidden l.first l.found (strategies_of (drop l.strategy-index l.strategies)) ≡ met_in_strategies l.fn.hidden l.first l.fn.found (strategies_of l.strategies);
+  same : met_in_strategies l.fn.hidden l.first l.found (strategies_of (drop l.strategy-index l.strategies))
+      ≡ met_in_strategies l.fn.hidden l.first l.fn.found (strategies_of l.strategies);
   kept : l.hidden ≡ l.fn.hidden;
 }

@@ -18,7 +18,8 @@ renumber_all-renumber-requires t c =
     let ss = c.args.parts.now.items in
     let d = c.index_mut.result.now in
     let within : i < length ss = omega (arith, c.loop-i-test.true, c.len-i-end.ensures) in
-    let same = c.index_mut.ensures.value ∙ ap (λ xs. get_or xs i d) c.loop-i.invariant ∙ partly-at c.args.numbers.now i ss d within in
+    let same = c.index_mut.ensures.value ∙ ap (λ xs. get_or xs i d) c.loop-i.invariant
+    ∙ partly-at c.args.numbers.now i ss d within in
     (omega (arith, shallow i ss d within, ap depth same), tt)
 
 pub renumber_all-loop-i-preserved : goal.renumber_all-loop-i-preserved
@@ -38,8 +39,14 @@ pub renumber_all-returns : goal.renumber_all-returns
 renumber_all-returns t c =
     ap resolveds_of c.loop-i.invariant
     ∙ partly-all c.args.numbers.now c.loop-i.i c.args.parts.now.items
-    (omega (arith, c.loop-i-test.false, ap length c.loop-i.invariant, partly-length c.args.numbers.now c.loop-i.i c.args.parts.now.items))
+    (omega (
+      arith,
+      c.loop-i-test.false,
+      ap length c.loop-i.invariant,
+      partly-length c.args.numbers.now c.loop-i.i c.args.parts.now.items,
+    ))
 
 pub ResolvedStrategy::renumber-invariant_of-self : goal.ResolvedStrategy::renumber-invariant_of-self
 ResolvedStrategy::renumber-invariant_of-self t c =
-    subst (λ (s : ResolvedStrategy). Kept c.self.inside.skips s) (sym c.renumber_form.ensures) (kept_renumbered c.args.numbers.now c.self.inside.skips (resolved_of c.self.inside.form) c.self.invariant)
+    subst (λ (s : ResolvedStrategy). Kept c.self.inside.skips s) (sym c.renumber_form.ensures)
+    (kept_renumbered c.args.numbers.now c.self.inside.skips (resolved_of c.self.inside.form) c.self.invariant)

@@ -6,14 +6,18 @@ use Rattle.strategy_syntax.proofs.skips.told_by_child.Goals as goal
 
 pub loop-i-init : goal.loop-i-init
 loop-i-init c = λ e n then second.
-    subst (λ (k : ℕ). AreApart k (guard (scope n (seq (matches c.args.pattern.now) then)) second c.args.other.now) c.args.root (Some (c.args.child, e))) (sym (none_yet 64 e)) tt
+    subst (λ (k : ℕ). AreApart k (guard (scope n (seq (matches c.args.pattern.now) then)) second c.args.other.now)
+    c.args.root (Some (c.args.child, e))) (sym (none_yet 64 e)) tt
 
 pub loop-i-preserved : goal.loop-i-preserved
 loop-i-preserved c = λ e n then second.
-    set_entry c.loop-i.counts c.loop-i.i c.past.result e (λ d k. AreApart k (guard (scope n (seq (matches c.args.pattern.now) then)) second c.args.other.now) c.args.root (Some (c.args.child, d)))
+    set_entry c.loop-i.counts c.loop-i.i c.past.result e
+    (λ d k. AreApart k (guard (scope n (seq (matches c.args.pattern.now) then)) second c.args.other.now) c.args.root
+    (Some (c.args.child, d)))
     (λ d. tt) (c.past.ensures n then second) (λ d. c.loop-i.invariant d n then second)
 
 pub returns : goal.returns
 returns c = λ n then second. skips_by_child _ c.args.child _ refl (λ e. c.loop-i.invariant e n then second)
-    (λ r d other. apart_more c.args.pattern.now c.args.other.now c.skipped_for_others.result c.one_more.result r d (other_root c.args.pattern.now c.args.root r d c.requires other)
+    (λ r d other. apart_more c.args.pattern.now c.args.other.now c.skipped_for_others.result c.one_more.result r d
+    (other_root c.args.pattern.now c.args.root r d c.requires other)
     (c.skipped_for_others.ensures r d other) c.one_more.ensures n then second)

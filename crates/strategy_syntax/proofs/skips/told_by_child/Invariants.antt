@@ -5,4 +5,5 @@ use Rattle.strategy_syntax.proofs.skips.told_by_child.Given as goal
 
 -- each entry so far is right, and the others are 0
 abbrev pub invariant-loop-i : goal.invariant-loop-i
-invariant-loop-i l = (e n : ℕ) (then second : ResolvedStrategy) → AreApart (get_or l.counts e 0) (guard (scope n (seq (matches l.pattern) then)) second l.other) l.root (Some (l.child, e))
+invariant-loop-i l = (e n : ℕ) (then second : ResolvedStrategy) → AreApart (get_or l.counts e 0)
+    (guard (scope n (seq (matches l.pattern) then)) second l.other) l.root (Some (l.child, e))

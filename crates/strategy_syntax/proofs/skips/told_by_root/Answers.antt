@@ -6,11 +6,14 @@ use Rattle.strategy_syntax.proofs.skips.told_by_root.Goals as goal
 
 pub loop-i-init : goal.loop-i-init
 loop-i-init c = λ e n then second.
-    subst (λ (k : ℕ). AreApart k (guard (scope n (seq (matches c.args.pattern.now) then)) second c.args.other.now) e None) (sym (none_yet 64 e)) tt
+    subst
+    (λ (k : ℕ). AreApart k (guard (scope n (seq (matches c.args.pattern.now) then)) second c.args.other.now) e None)
+    (sym (none_yet 64 e)) tt
 
 pub loop-i-preserved : goal.loop-i-preserved
 loop-i-preserved c = λ e n then second.
-    set_entry c.loop-i.counts c.loop-i.i c.past.result e (λ d k. AreApart k (guard (scope n (seq (matches c.args.pattern.now) then)) second c.args.other.now) d None)
+    set_entry c.loop-i.counts c.loop-i.i c.past.result e
+    (λ d k. AreApart k (guard (scope n (seq (matches c.args.pattern.now) then)) second c.args.other.now) d None)
     (λ d. tt) (c.past.ensures n then second) (λ d. c.loop-i.invariant d n then second)
 
 pub returns : goal.returns

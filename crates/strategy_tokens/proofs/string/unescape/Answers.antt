@@ -10,7 +10,8 @@ loop-after-init c = (
 
 pub loop-after-preserved : goal.loop-after-preserved
 loop-after-preserved c = (
-  step c.args.items.now c.loop-after.bytes.items c.loop-after.rest.now _ c.in-Some-escape.after.now _ _ _ _ _ c.loop-after.invariant.0 c.loop-after.invariant.1
+  step c.args.items.now c.loop-after.bytes.items c.loop-after.rest.now _ c.in-Some-escape.after.now _ _ _ _ _
+      c.loop-after.invariant.0 c.loop-after.invariant.1
       c.in-Some.ensures.cases.0 c.in-Some-escape.ensures.some c.first_run-in-Some.ensures.run
       c.first_run-in-Some.ensures.rest
       (c.in_ok-extend_from_slice.ensures.items

@@ -21,9 +21,12 @@ exchange_item-returns-then-mark-gt0-clause-walked t c =
     let d : PlaceMark = record { skipped = 0; kids = 0 } in
     let x = slice_index_or ms last d in
     let kids = take x.kids (read (reverse (take last ms)) (reverse ts)) in
-    node_walked ms ts last x d (omega (arith, c.requires.some)) refl c.requires.whole (x.kids - 1) (omega (arith, c.if-mark-gt0.true))
+    node_walked ms ts last x d (omega (arith, c.requires.some)) refl c.requires.whole
+    (x.kids - 1) (omega (arith, c.if-mark-gt0.true))
     c.exchange_kids.new.terms c.exchange_kids.result.marks c.exchange_kids.result.terms c.args.tree.now
-    (subst (λ us. Walked (take last ms) ts c.exchange_kids.new.terms c.exchange_kids.result.marks c.exchange_kids.result.terms kids (taken_items kids us)) c.children_mut.ensures.value c.exchange_kids.ensures.walked)
+    (subst
+    (λ us. Walked (take last ms) ts c.exchange_kids.new.terms c.exchange_kids.result.marks c.exchange_kids.result.terms
+    kids (taken_items kids us)) c.children_mut.ensures.value c.exchange_kids.ensures.walked)
 
 pub pass_item-returns-then-mark-gt0 : goal.pass_item-returns-then-mark-gt0
 pass_item-returns-then-mark-gt0 t c =
@@ -32,8 +35,10 @@ pass_item-returns-then-mark-gt0 t c =
     let d : PlaceMark = record { skipped = 0; kids = 0 } in
     let x = slice_index_or ms last d in
     record {
-      walked = node_passed ms c.args.terms.now last x d (omega (arith, c.requires.some)) refl c.requires.whole (x.kids - 1) (omega (arith, c.if-mark-gt0.true))
-          c.exchange_kids.new.terms c.exchange_kids.result.marks c.exchange_kids.result.terms c.exchange_kids.ensures.walked;
+      walked = node_passed ms c.args.terms.now last x d (omega (arith, c.requires.some)) refl c.requires.whole
+          (x.kids - 1) (omega (arith, c.if-mark-gt0.true))
+          c.exchange_kids.new.terms c.exchange_kids.result.marks c.exchange_kids.result.terms
+          c.exchange_kids.ensures.walked;
     }
 
 pub pass_item-returns : goal.pass_item-returns
@@ -46,7 +51,8 @@ pass_item-returns t c =
     let h : suc last ≡ length ms = omega (arith, c.requires.some) in
     let e : x.kids ≡ 0 = omega (arith, c.if-mark-gt0.false) in
     record {
-      walked = leaf_passed ms ts last x d h refl c.requires.whole e (length ts - 1) (integer (pos 0) none) (omega (arith, one ms ts last x d h refl c.requires.whole e));
+      walked = leaf_passed ms ts last x d h refl c.requires.whole e (length ts - 1) (integer (pos 0) none)
+          (omega (arith, one ms ts last x d h refl c.requires.whole e));
     }
 
 -- ---- one place below the children
@@ -57,8 +63,10 @@ exchange_kid-returns-then-skipped-children-clause-children t c =
     let ms = c.args.marks.now in
     let ts = c.args.terms.now in
     let d : PlaceMark = record { skipped = 0; kids = 0 } in
-    let gap = item_skipped ms ts (length ms - 1) (slice_index_or ms (length ms - 1) d) d (omega (arith, c.requires.some)) refl c.requires.whole in
-    last_children c.args.at.now (length c.args.children.now) c.args.children.now (first_item (read (reverse ms) (reverse ts)))
+    let gap = item_skipped ms ts (length ms - 1) (slice_index_or ms (length ms - 1) d) d
+    (omega (arith, c.requires.some)) refl c.requires.whole in
+    last_children c.args.at.now (length c.args.children.now) c.args.children.now
+    (first_item (read (reverse ms) (reverse ts)))
     (omega (arith, gap, c.if-skipped-children.true, c.requires.within)) refl
 
 pub exchange_kid-returns-then-skipped-children-clause-taken :
@@ -67,8 +75,10 @@ exchange_kid-returns-then-skipped-children-clause-taken t c =
     let ms = c.args.marks.now in
     let ts = c.args.terms.now in
     let d : PlaceMark = record { skipped = 0; kids = 0 } in
-    let gap = item_skipped ms ts (length ms - 1) (slice_index_or ms (length ms - 1) d) d (omega (arith, c.requires.some)) refl c.requires.whole in
-    last_taken c.args.at.now (length c.args.children.now) c.args.children.now (first_item (read (reverse ms) (reverse ts)))
+    let gap = item_skipped ms ts (length ms - 1) (slice_index_or ms (length ms - 1) d) d
+    (omega (arith, c.requires.some)) refl c.requires.whole in
+    last_taken c.args.at.now (length c.args.children.now) c.args.children.now
+    (first_item (read (reverse ms) (reverse ts)))
     (omega (arith, gap, c.if-skipped-children.true, c.requires.within)) refl
 
 pub exchange_kid-returns-then-skipped-children-clause-walked :
@@ -78,9 +88,11 @@ exchange_kid-returns-then-skipped-children-clause-walked t c =
     let ts = c.args.terms.now in
     let d : PlaceMark = record { skipped = 0; kids = 0 } in
     let x = first_item (read (reverse ms) (reverse ts)) in
-    let gap = item_skipped ms ts (length ms - 1) (slice_index_or ms (length ms - 1) d) d (omega (arith, c.requires.some)) refl c.requires.whole in
+    let gap = item_skipped ms ts (length ms - 1) (slice_index_or ms (length ms - 1) d) d
+    (omega (arith, c.requires.some)) refl c.requires.whole in
     subst (λ y. Walked ms ts c.pass_item.new.terms c.pass_item.result.marks c.pass_item.result.terms (x ∷ []) (y ∷ []))
-    (sym (not_found c.args.at.now (length c.args.children.now) c.args.children.now x (omega (arith, gap, c.if-skipped-children.true, c.requires.within)) refl))
+    (sym (not_found c.args.at.now (length c.args.children.now) c.args.children.now x
+    (omega (arith, gap, c.if-skipped-children.true, c.requires.within)) refl))
     c.pass_item.ensures.walked
 
 pub exchange_kid-returns-clause-children : goal.exchange_kid-returns-clause-children
@@ -89,10 +101,14 @@ exchange_kid-returns-clause-children t c =
     let ts = c.args.terms.now in
     let us = c.args.children.now in
     let d : PlaceMark = record { skipped = 0; kids = 0 } in
-    let gap = item_skipped ms ts (length ms - 1) (slice_index_or ms (length ms - 1) d) d (omega (arith, c.requires.some)) refl c.requires.whole in
+    let gap = item_skipped ms ts (length ms - 1) (slice_index_or ms (length ms - 1) d) d
+    (omega (arith, c.requires.some)) refl c.requires.whole in
     let j = c.args.at.now + (slice_index_or ms (length ms - 1) d).skipped in
-    next_children c.args.at.now j (j + 1) us (get_or us j c.index-children-at.result) c.exchange_item-left.new.tree (first_item (read (reverse ms) (reverse ts)))
-    (omega (arith, gap)) (add-one j) (slice_get-get_or us j c.index-children-at.result (omega (arith, c.if-skipped-children.false, c.requires.within))) c.exchange_item-left.ensures.tree
+    next_children c.args.at.now j (j + 1) us (get_or us j c.index-children-at.result) c.exchange_item-left.new.tree
+    (first_item (read (reverse ms) (reverse ts)))
+    (omega (arith, gap)) (add-one j)
+    (slice_get-get_or us j c.index-children-at.result (omega (arith, c.if-skipped-children.false, c.requires.within)))
+    c.exchange_item-left.ensures.tree
 
 pub exchange_kid-returns-clause-taken : goal.exchange_kid-returns-clause-taken
 exchange_kid-returns-clause-taken t c =
@@ -100,10 +116,13 @@ exchange_kid-returns-clause-taken t c =
     let ts = c.args.terms.now in
     let us = c.args.children.now in
     let d : PlaceMark = record { skipped = 0; kids = 0 } in
-    let gap = item_skipped ms ts (length ms - 1) (slice_index_or ms (length ms - 1) d) d (omega (arith, c.requires.some)) refl c.requires.whole in
+    let gap = item_skipped ms ts (length ms - 1) (slice_index_or ms (length ms - 1) d) d
+    (omega (arith, c.requires.some)) refl c.requires.whole in
     let j = c.args.at.now + (slice_index_or ms (length ms - 1) d).skipped in
-    next_taken c.args.at.now j (j + 1) us (get_or us j c.index-children-at.result) c.exchange_item-left.new.tree (first_item (read (reverse ms) (reverse ts)))
-    (omega (arith, gap)) (add-one j) (slice_get-get_or us j c.index-children-at.result (omega (arith, c.if-skipped-children.false, c.requires.within)))
+    next_taken c.args.at.now j (j + 1) us (get_or us j c.index-children-at.result) c.exchange_item-left.new.tree
+    (first_item (read (reverse ms) (reverse ts)))
+    (omega (arith, gap)) (add-one j)
+    (slice_get-get_or us j c.index-children-at.result (omega (arith, c.if-skipped-children.false, c.requires.within)))
 
 pub exchange_kid-returns-clause-walked : goal.exchange_kid-returns-clause-walked
 exchange_kid-returns-clause-walked t c =
@@ -112,11 +131,14 @@ exchange_kid-returns-clause-walked t c =
     let us = c.args.children.now in
     let d : PlaceMark = record { skipped = 0; kids = 0 } in
     let x = first_item (read (reverse ms) (reverse ts)) in
-    let gap = item_skipped ms ts (length ms - 1) (slice_index_or ms (length ms - 1) d) d (omega (arith, c.requires.some)) refl c.requires.whole in
+    let gap = item_skipped ms ts (length ms - 1) (slice_index_or ms (length ms - 1) d) d
+    (omega (arith, c.requires.some)) refl c.requires.whole in
     let j = c.args.at.now + (slice_index_or ms (length ms - 1) d).skipped in
-    subst (λ y. Walked ms ts c.exchange_item-left.new.terms c.exchange_item-left.result.marks c.exchange_item-left.result.terms (x ∷ []) (y ∷ []))
+    subst (λ y. Walked ms ts c.exchange_item-left.new.terms c.exchange_item-left.result.marks
+    c.exchange_item-left.result.terms (x ∷ []) (y ∷ []))
     (sym (found c.args.at.now j (j + 1) us (get_or us j c.index-children-at.result) c.exchange_item-left.new.tree x
-    (omega (arith, gap)) (add-one j) (slice_get-get_or us j c.index-children-at.result (omega (arith, c.if-skipped-children.false, c.requires.within)))))
+    (omega (arith, gap)) (add-one j)
+    (slice_get-get_or us j c.index-children-at.result (omega (arith, c.if-skipped-children.false, c.requires.within)))))
     c.exchange_item-left.ensures.walked
 
 -- ---- all of them
@@ -135,15 +157,19 @@ exchange_kids-loop-k-preserved t c =
     let x = first_item (read (reverse (take m ms)) (reverse (take n now))) in
     let more = taken_items (x ∷ []) (drop c.loop-k.at us) in
     let rest = drop (k + 1) kids in
-    let item = next_item ms ts now m n k c.args.kids found c.requires.some c.requires.whole c.loop-k-test.true c.loop-k.invariant.walked (k + 1) (add-one k) in
+    let item = next_item ms ts now m n k c.args.kids found c.requires.some c.requires.whole c.loop-k-test.true
+    c.loop-k.invariant.walked (k + 1) (add-one k) in
     record {
       within = c.exchange_kid-left.ensures.within;
       found = found ++ more;
-      walked = next_walked ms ts now m n k c.args.kids found c.requires.some c.requires.whole c.loop-k-test.true c.loop-k.invariant.walked
-          c.exchange_kid-left.new.terms c.exchange_kid-left.result.marks c.exchange_kid-left.result.terms (k + 1) more (add-one k) c.exchange_kid-left.ensures.walked;
+      walked = next_walked ms ts now m n k c.args.kids found c.requires.some c.requires.whole c.loop-k-test.true
+          c.loop-k.invariant.walked
+          c.exchange_kid-left.new.terms c.exchange_kid-left.result.marks c.exchange_kid-left.result.terms (k + 1) more
+          (add-one k) c.exchange_kid-left.ensures.walked;
       taken =
           append_assoc found more (taken_items rest (drop c.exchange_kid-left.new.at c.exchange_kid-left.new.children))
-          ∙ ap (λ l. found ++ l) (sym (c.exchange_kid-left.ensures.taken rest) ∙ ap (λ xs. taken_items xs (drop c.loop-k.at us)) (sym item))
+          ∙ ap (λ l. found ++ l)
+          (sym (c.exchange_kid-left.ensures.taken rest) ∙ ap (λ xs. taken_items xs (drop c.loop-k.at us)) (sym item))
           ∙ c.loop-k.invariant.taken;
       children =
           c.exchange_kid-left.ensures.children rest

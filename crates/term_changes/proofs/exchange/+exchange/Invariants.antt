@@ -23,9 +23,13 @@ abbrev pub invariant-exchange_kids-loop-k : goal.invariant-exchange_kids-loop-k
 invariant-exchange_kids-loop-k l = record {
   within : l.at ≤ length l.children;
   found : List Item;
-  walked : Walked l.marks l.initial.terms l.terms l.left.marks l.left.terms (take l._k (read (reverse l.marks) (reverse l.initial.terms))) found;
-  taken : found ++ taken_items (drop l._k (take l.kids (read (reverse l.marks) (reverse l.initial.terms)))) (drop l.at l.children)
+  walked : Walked l.marks l.initial.terms l.terms l.left.marks l.left.terms
+      (take l._k (read (reverse l.marks) (reverse l.initial.terms))) found;
+  taken : found
+      ++ taken_items (drop l._k (take l.kids (read (reverse l.marks) (reverse l.initial.terms)))) (drop l.at l.children)
       ≡ taken_items (take l.kids (read (reverse l.marks) (reverse l.initial.terms))) l.initial.children;
-  children : take l.at l.children ++ changed_all (items_changes (drop l._k (take l.kids (read (reverse l.marks) (reverse l.initial.terms))))) (drop l.at l.children)
+  children : take l.at l.children
+      ++ changed_all (items_changes (drop l._k (take l.kids (read (reverse l.marks) (reverse l.initial.terms)))))
+      (drop l.at l.children)
       ≡ changed_all (items_changes (take l.kids (read (reverse l.marks) (reverse l.initial.terms)))) l.initial.children;
 }

@@ -20,7 +20,10 @@ decreases-list_kids l = 3 * length l.marks.now + 2
 abbrev pub invariant-list_kids-loop-k : goal.invariant-list_kids-loop-k
 invariant-list_kids-loop-k l = record {
   path : l.path.items ≡ l.initial.path.items;
-  listed : Listed l.marks l.initial.terms.items l.terms.items l.left (take l._k (read (reverse l.marks) (reverse l.initial.terms.items)));
-  plan : l.plan ++ entries_at l.slot (prefixed l.initial.path.items (places_from l.at (items_changes (drop l._k (take l.kids (read (reverse l.marks) (reverse l.initial.terms.items)))))))
-      ≡ l.initial.plan ++ entries_at l.slot (prefixed l.initial.path.items (places_from 0 (items_changes (take l.kids (read (reverse l.marks) (reverse l.initial.terms.items))))));
+  listed : Listed l.marks l.initial.terms.items l.terms.items l.left
+      (take l._k (read (reverse l.marks) (reverse l.initial.terms.items)));
+  plan : l.plan ++ entries_at l.slot (prefixed l.initial.path.items (places_from l.at
+      (items_changes (drop l._k (take l.kids (read (reverse l.marks) (reverse l.initial.terms.items)))))))
+      ≡ l.initial.plan ++ entries_at l.slot (prefixed l.initial.path.items
+      (places_from 0 (items_changes (take l.kids (read (reverse l.marks) (reverse l.initial.terms.items))))));
 }

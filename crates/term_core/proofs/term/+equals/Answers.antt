@@ -7,7 +7,8 @@ Term::equals-returns-then-not-equals t c =
     let a = c.self.inside in
     let b = c.other.inside in (
       λ no. (cc),
-      λ same. c.if-not-equals.ensures.1 (same_root a.node b.node a.children.items b.children.items a.annotations.items b.annotations.items (c.self.view_is ∙ same ∙ sym c.other.view_is)),
+      λ same. c.if-not-equals.ensures.1 (same_root a.node b.node a.children.items b.children.items a.annotations.items
+          b.annotations.items (c.self.view_is ∙ same ∙ sym c.other.view_is)),
     )
 
 pub Term::equals-returns-then-not-all_equal : goal.Term::equals-returns-then-not-all_equal
@@ -16,7 +17,8 @@ Term::equals-returns-then-not-all_equal t c =
     let b = c.other.inside in (
       λ no. (cc),
       λ same. c.if-not-all_equal.ensures.1 (c.deref.ensures.value
-          ∙ same_children a.node b.node a.children.items b.children.items a.annotations.items b.annotations.items c.self.invariant c.other.invariant (c.self.view_is ∙ same ∙ sym c.other.view_is)
+          ∙ same_children a.node b.node a.children.items b.children.items a.annotations.items b.annotations.items
+          c.self.invariant c.other.invariant (c.self.view_is ∙ same ∙ sym c.other.view_is)
           ∙ sym c.deref-2.ensures.value),
     )
 
@@ -31,6 +33,7 @@ Term::equals-returns t c =
           (sym c.deref-3.ensures.value ∙ c.all_equal-2.ensures.0 yes ∙ c.deref-4.ensures.value)
           ∙ c.other.view_is,
       λ same. c.all_equal-2.ensures.1 (c.deref-3.ensures.value
-          ∙ same_annotations a.node b.node a.children.items b.children.items a.annotations.items b.annotations.items (c.self.view_is ∙ same ∙ sym c.other.view_is)
+          ∙ same_annotations a.node b.node a.children.items b.children.items a.annotations.items b.annotations.items
+          (c.self.view_is ∙ same ∙ sym c.other.view_is)
           ∙ sym c.deref-4.ensures.value),
     )

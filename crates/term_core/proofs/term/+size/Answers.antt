@@ -4,4 +4,9 @@ use Rattle.term_core.proofs.term.+size.Goals as goal
 
 pub total_size-loop-term-preserved : goal.total_size-loop-term-preserved
 total_size-loop-term-preserved t c =
-    omega (arith, c.size.ensures, c.saturating_add-total.ensures, sizes-take_more c.args.terms.now c.loop-term.term-index c.term-item.result c.loop-term-test.true c.term-item.is)
+    omega (
+      arith,
+      c.size.ensures,
+      c.saturating_add-total.ensures,
+      sizes-take_more c.args.terms.now c.loop-term.term-index c.term-item.result c.loop-term-test.true c.term-item.is,
+    )

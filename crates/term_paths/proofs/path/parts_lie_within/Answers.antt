@@ -5,5 +5,6 @@ use Rattle.term_paths.proofs.path.parts_lie_within.Goals as goal
 
 pub returns : goal.returns
 returns c =
-    let front = starts_is Decides-eqb c.args.inner.now c.args.outer.now c.starts_with.result c.starts_with.ensures.value in
+    let front =
+    starts_is Decides-eqb c.args.inner.now c.args.outer.now c.starts_with.result c.starts_with.ensures.value in
     (λ yes. (drop (length c.args.outer.now) c.args.inner.now, front.0 yes), λ within. front.1 within.0 within.1)

@@ -5,4 +5,5 @@ use Rattle.term_sorts.proofs.injecting.clashes.Given as goal
 
 abbrev pub invariant-loop-other : goal.invariant-loop-other
 invariant-loop-other l =
-    (k : ℕ) → k < l.other-index → (get_or l.gained k 0 ≡ l.number → ⊥) → NumbersAreAlike (sorts_in l.rows) l.number (get_or l.gained k 0) → ⊥
+    (k : ℕ) → k < l.other-index → (get_or l.gained k 0 ≡ l.number → ⊥) → NumbersAreAlike (sorts_in l.rows) l.number
+    (get_or l.gained k 0) → ⊥

@@ -6,7 +6,8 @@ use Rattle.term_sorts.proofs.injecting.has_clash.Goals as goal
 
 pub loop-number-preserved : goal.loop-number-preserved
 loop-number-preserved c =
-    below_more (λ k. ClashesWith (sorts_in c.args.rows.now) (get_or c.args.taken.now k 0) c.args.gained.now → ⊥) c.loop-number.number-index c.loop-number.invariant
+    below_more (λ k. ClashesWith (sorts_in c.args.rows.now) (get_or c.args.taken.now k 0) c.args.gained.now → ⊥)
+    c.loop-number.number-index c.loop-number.invariant
     (λ h. let yes = c.clashes.ensures.1 h in let not = c.if-clashes.false in cc)
 
 pub returns : goal.returns

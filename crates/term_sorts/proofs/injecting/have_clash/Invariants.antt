@@ -7,4 +7,5 @@ use Rattle.term_sorts.proofs.injecting.have_clash.Given as goal
 
 abbrev pub invariant-loop-row : goal.invariant-loop-row
 invariant-loop-row l =
-    (k : ℕ) → k < l.row-index → (r : Row) → slice_get l.rows k ≡ Some r → RowClashes (sorts_in l.rows) r l.to l.gained → ⊥
+    (k : ℕ) → k < l.row-index → (r : Row) → slice_get l.rows k ≡ Some r
+    → RowClashes (sorts_in l.rows) r l.to l.gained → ⊥

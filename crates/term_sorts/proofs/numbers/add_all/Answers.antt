@@ -10,7 +10,8 @@ loop-other-preserved c =
     let i = c.loop-other.other-index in
     elim c.if-not-is_among.branch [
       | then-not-is_among+in_ok-push w ↦
-          rw (w.numbers-is, w.in_ok-push.ensures.items) (was_added old others i c.loop-other-test.true c.loop-other.numbers.items c.loop-other.invariant)
+          rw (w.numbers-is, w.in_ok-push.ensures.items)
+          (was_added old others i c.loop-other-test.true c.loop-other.numbers.items c.loop-other.invariant)
       | else-not-is_among w ↦
           rw w.numbers-is (was_there old others i c.loop-other-test.true c.loop-other.numbers.items
           (rw (← c.deref.ensures.value) (c.is_among.ensures.0 w.if-not-is_among.false)) c.loop-other.invariant)

@@ -4,4 +4,5 @@ use Rattle.term_sorts.proofs.numbers.add_all.Given as goal
 
 abbrev pub invariant-loop-other : goal.invariant-loop-other
 invariant-loop-other l =
-    (n : ℕ) → Contains l.numbers.items n ↔ (Contains l.initial.numbers.items n ⊎ Contains (take l.other-index l.others) n)
+    (n : ℕ)
+    → Contains l.numbers.items n ↔ (Contains l.initial.numbers.items n ⊎ Contains (take l.other-index l.others) n)

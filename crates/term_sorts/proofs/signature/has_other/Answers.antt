@@ -9,5 +9,6 @@ pub returns-clause-none : goal.returns-clause-none
 returns-clause-none c = λ q h is.
     let d = c.args.declaration.now in
     let f = form_of c.args.forms.now q h in
-    sym f.3 ∙ c.loop-form.invariant f.0 (omega (arith, slice_get_within c.args.forms.now f.0 f.1 f.2, c.loop-form-test.false)) f.1 f.2
+    sym f.3 ∙ c.loop-form.invariant f.0
+    (omega (arith, slice_get_within c.args.forms.now f.0 f.1 f.2, c.loop-form-test.false)) f.1 f.2
     (subst (λ (x : Declaration). IsOf x d.name (length d.arguments)) (sym f.3) is)

@@ -14,8 +14,11 @@ invariant_of-result c =
     let t = c.args.node in
     let ns = annotation_list c.args.annotations in
     let mine = bounded_along _ t c.node.inside.bounds c.node.view_is c.node.invariant.bounded in
-    let both = c.before-bounds.ensures (sizes (of_list ns)) (heights (of_list ns)) (size t) (height t) c.requires.bounds mine in
+    let both =
+    c.before-bounds.ensures (sizes (of_list ns)) (heights (of_list ns)) (size t) (height t) c.requires.bounds mine in
     record {
-      shape = subst (λ (x : Annotated). AnnotatedShape x.node (annotation_list x.annotations)) (sym c.in_ok-annotated.ensures.ok) c.requires.shape;
-      bounded = subst (λ (x : Annotated). Bounded (with_annotations x.node (annotation_list x.annotations)) b) (sym c.in_ok-annotated.ensures.ok) (annotated_bounded t ns b c.requires.shape.bare both);
+      shape = subst (λ (x : Annotated). AnnotatedShape x.node (annotation_list x.annotations))
+          (sym c.in_ok-annotated.ensures.ok) c.requires.shape;
+      bounded = subst (λ (x : Annotated). Bounded (with_annotations x.node (annotation_list x.annotations)) b)
+          (sym c.in_ok-annotated.ensures.ok) (annotated_bounded t ns b c.requires.shape.bare both);
     }

@@ -21,7 +21,8 @@ chunks-preserved c =
     let after = ap (λ (x : Joined). children x.after) e in (
       omega (arith, ap length more, length-append all (front_list m.front), done.0),
       subst (λ (x : Joined). x.after ≡ list_term (children x.after)) (sym e) shape.list,
-      (λ i. more i ++ after i) ∙ append_assoc all (front_list m.front) (children m.after) ∙ ap (λ l. all ++ l) (sym kids) ∙ done.2,
+      (λ i. more i ++ after i) ∙ append_assoc all (front_list m.front) (children m.after)
+          ∙ ap (λ l. all ++ l) (sym kids) ∙ done.2,
     )
 
 pub joined-requires-clause-room : goal.joined-requires-clause-room

@@ -23,7 +23,9 @@ invariant_of-result c =
           (record {
             some = c.requires.some;
             list = c.requires.list;
-            counted = omega (arith, length-append us (children t), ap length c.as_slice-2.ensures, c.child_count.ensures);
+            counted =
+                omega (arith, length-append us (children t), ap length c.as_slice-2.ensures, c.child_count.ensures);
           });
-      bounded = subst (λ (x : Joined). Bounded (list_term (front_list x.front ++ children x.after)) b) (sym c.in_ok-joined.ensures.ok) (joined_bounded us t b c.requires.list both);
+      bounded = subst (λ (x : Joined). Bounded (list_term (front_list x.front ++ children x.after)) b)
+          (sym c.in_ok-joined.ensures.ok) (joined_bounded us t b c.requires.list both);
     }

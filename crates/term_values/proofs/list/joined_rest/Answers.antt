@@ -36,5 +36,6 @@ loop-at-preserved c =
     let next = c.in_ok-rest-2.ensures ∙ ap (λ x. list_term (x ∷ children c.loop-at.rest)) c.in_ok-try_clone.ensures in (
       omega (arith, c.loop-at-test.true),
       omega (arith, done.1),
-      link_more front ch (at - 1) v c.loop-at.rest c.in_ok-rest-2.rest (omega (arith, done.1, c.loop-at-test.true)) c.index-front-at.is rest next,
+      link_more front ch (at - 1) v c.loop-at.rest c.in_ok-rest-2.rest (omega (arith, done.1, c.loop-at-test.true))
+          c.index-front-at.is rest next,
     )

@@ -28,5 +28,6 @@ invariant_of-result c =
             list = c.requires.list;
             counted = omega (arith, c.child_count-count.ensures);
           });
-      bounded = subst (λ (x : Joined). Bounded (list_term (front_list x.front ++ children x.after)) b) (sym c.in_ok-joined.ensures.ok) (joined_bounded us t b c.requires.list whole);
+      bounded = subst (λ (x : Joined). Bounded (list_term (front_list x.front ++ children x.after)) b)
+          (sym c.in_ok-joined.ensures.ok) (joined_bounded us t b c.requires.list whole);
     }

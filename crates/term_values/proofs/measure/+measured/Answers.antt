@@ -10,8 +10,10 @@ use Rattle.term_values.proofs.measure.+measured.Goals as goal
 pub all_measured-measured_within-requires : goal.all_measured-measured_within-requires
 all_measured-measured_within-requires t c =
     let done = c.loop-seen.invariant in
-    let whole = ap (λ l. done.0 ++ l) (sym c.in-Some.ensures) ∙ done.1 in
-    (omega (arith, member_size done.0 c.next.new.self c.args.elements (seen_tree c.in-Some.seen) whole, c.decreases), tt)
+    let whole = ap (λ l. done.0 ++ l) (sym c.in-Some.ensures) ∙ done.1 in (
+      omega (arith, member_size done.0 c.next.new.self c.args.elements (seen_tree c.in-Some.seen) whole, c.decreases),
+      tt,
+    )
 
 pub all_measured-loop-seen-preserved : goal.all_measured-loop-seen-preserved
 all_measured-loop-seen-preserved t c =
@@ -20,7 +22,8 @@ all_measured-loop-seen-preserved t c =
     let v = seen_tree c.in-Some.seen in
     let b = c.and-all.result in
     let one = c.in-Some-measured_within.ensures.some in
-    let both = c.and-all.ensures.covers (sizes (of_list us)) (heights (of_list us)) (size v) (height v) done.2.0 one.0.0 in
+    let both =
+    c.and-all.ensures.covers (sizes (of_list us)) (heights (of_list us)) (size v) (height v) done.2.0 one.0.0 in
     let whole = append_assoc us (v ∷ []) c.next.new.self ∙ ap (λ l. us ++ l) (sym c.in-Some.ensures) ∙ done.1 in (
       us ++ v ∷ [],
       whole,
@@ -40,10 +43,22 @@ measured_within-returns-clause-some t c =
     let ns = c.annotations.result in
     let a = c.in_ok-children.ensures.some in
     let b = c.in_ok-annotations.ensures.some in
-    let both = c.and.ensures.covers (sizes (of_list us)) (heights (of_list us)) (sizes (of_list ns)) (heights (of_list ns)) a.0.0 b.0.0 in
+    let both = c.and.ensures.covers (sizes (of_list us)) (heights (of_list us)) (sizes (of_list ns))
+    (heights (of_list ns)) a.0.0 b.0.0 in
     let over = c.over.ensures.covers _ _ both in (
-      (node_bounded u us ns c.over.result c.elements.ensures c.annotations.ensures over, c.over.ensures.exact (c.and.ensures.exact a.0.1 b.0.1)),
-      omega (arith, size_parts u, ap (λ l. sizes (of_list l)) c.elements.ensures, ap (λ l. sizes (of_list l)) c.annotations.ensures, a.1, b.1, c.if-left-eq0.false),
+      (
+        node_bounded u us ns c.over.result c.elements.ensures c.annotations.ensures over,
+        c.over.ensures.exact (c.and.ensures.exact a.0.1 b.0.1),
+      ),
+      omega (
+        arith,
+        size_parts u,
+        ap (λ l. sizes (of_list l)) c.elements.ensures,
+        ap (λ l. sizes (of_list l)) c.annotations.ensures,
+        a.1,
+        b.1,
+        c.if-left-eq0.false,
+      ),
     )
 
 pub all_measured-returns-in_default-measured_within-clause-none :
@@ -52,4 +67,10 @@ all_measured-returns-in_default-measured_within-clause-none t c =
     let done = c.loop-seen.invariant in
     let whole = ap (λ l. done.0 ++ l) (sym c.in-Some.ensures) ∙ done.1 in
     let v = seen_tree c.in-Some.seen in
-    omega (arith, ap (λ l. sizes (of_list l)) whole, sizes-append done.0 (v ∷ c.next.new.self), done.3, c.in_default-measured_within.ensures.none)
+    omega (
+      arith,
+      ap (λ l. sizes (of_list l)) whole,
+      sizes-append done.0 (v ∷ c.next.new.self),
+      done.3,
+      c.in_default-measured_within.ensures.none,
+    )

@@ -14,7 +14,8 @@ decreases-all_measured l = 2 * sizes (of_list l.elements) + 1
 -- what was visited, and the rest
 abbrev pub invariant-all_measured-loop-seen : goal.invariant-all_measured-loop-seen
 invariant-all_measured-loop-seen l =
-    (us : List Tree) × (us ++ l.rest ≡ l.fn.elements) × MeasuresAll us l.all × (l.left + sizes (of_list us) ≡ l.initial.left)
+    (us : List Tree) × (us ++ l.rest ≡ l.fn.elements) × MeasuresAll us l.all
+    × (l.left + sizes (of_list us) ≡ l.initial.left)
 
 abbrev pub decreases-all_measured-loop-seen : goal.decreases-all_measured-loop-seen
 decreases-all_measured-loop-seen l = length l.rest

@@ -22,7 +22,8 @@ terms_measured-loop-i-preserved t c =
     let b = c.and-all.result in
     let done = c.loop-i.invariant in
     let one = c.in-Some.ensures.some in
-    let both = c.and-all.ensures.covers (sizes (of_list us)) (heights (of_list us)) (size v) (height v) done.0.0 one.0.0 in
+    let both =
+    c.and-all.ensures.covers (sizes (of_list us)) (heights (of_list us)) (size v) (height v) done.0.0 one.0.0 in
     let more = sizes-take_more all i v c.loop-i-test.true c.index-terms-i.is in
     let high = heights-take_more all i v c.loop-i-test.true c.index-terms-i.is in (
       (covers_along _ _ _ _ b (sym more) (sym high) both, c.and-all.ensures.exact done.0.1 one.0.1),
@@ -48,7 +49,14 @@ term_measured-returns-then-is_empty-clause-some t c =
     let none : length (annotations u) ≡ 0 = search rules in
     let over = c.over.ensures.covers _ _ a.0.0 in (
       (bare_bounded u us c.over.result c.children.ensures none over, c.over.ensures.exact a.0.1),
-      omega (arith, size_parts u, ap (λ l. sizes (of_list l)) c.children.ensures, ap (λ l. sizes (of_list l)) (nothing (annotations u) none), a.1, c.if-left-eq0.false),
+      omega (
+        arith,
+        size_parts u,
+        ap (λ l. sizes (of_list l)) c.children.ensures,
+        ap (λ l. sizes (of_list l)) (nothing (annotations u) none),
+        a.1,
+        c.if-left-eq0.false,
+      ),
     )
 
 pub term_measured-returns-clause-some : goal.term_measured-returns-clause-some
@@ -58,8 +66,20 @@ term_measured-returns-clause-some t c =
     let ns = c.annotations-annotations.result.now in
     let a = c.in_ok-children.ensures.some in
     let b = c.in_ok-annotations.ensures.some in
-    let both = c.and.ensures.covers (sizes (of_list us)) (heights (of_list us)) (sizes (of_list ns)) (heights (of_list ns)) a.0.0 b.0.0 in
+    let both = c.and.ensures.covers (sizes (of_list us)) (heights (of_list us)) (sizes (of_list ns))
+    (heights (of_list ns)) a.0.0 b.0.0 in
     let over = c.over-2.ensures.covers _ _ both in (
-      (node_bounded u us ns c.over-2.result c.children.ensures c.annotations-annotations.ensures over, c.over-2.ensures.exact (c.and.ensures.exact a.0.1 b.0.1)),
-      omega (arith, size_parts u, ap (λ l. sizes (of_list l)) c.children.ensures, ap (λ l. sizes (of_list l)) c.annotations-annotations.ensures, a.1, b.1, c.if-left-eq0.false),
+      (
+        node_bounded u us ns c.over-2.result c.children.ensures c.annotations-annotations.ensures over,
+        c.over-2.ensures.exact (c.and.ensures.exact a.0.1 b.0.1),
+      ),
+      omega (
+        arith,
+        size_parts u,
+        ap (λ l. sizes (of_list l)) c.children.ensures,
+        ap (λ l. sizes (of_list l)) c.annotations-annotations.ensures,
+        a.1,
+        b.1,
+        c.if-left-eq0.false,
+      ),
     )

@@ -18,7 +18,10 @@ invariant_of-result c =
     let x = c.in_ok-changed.changed.value in
     let is = sym c.in_ok-changed.ensures.ok in
     let suit = subst (λ (l : List Standing). SuitAll (children t) l) (sym c.taken.ensures) c.requires in
-    let parts = subst (λ (l : List Tree). AllBounded l c.parts_bounds.result) (ap (map standing_tree) (c.as_slice.ensures.value ∙ sym c.taken.ensures)) c.parts_bounds.ensures in
-    let both = c.and.ensures.covers (sizes (of_list us)) (heights (of_list us)) (sizes (of_list ns)) (heights (of_list ns)) parts c.annotation_bounds.ensures in
+    let parts = subst (λ (l : List Tree). AllBounded l c.parts_bounds.result)
+    (ap (map standing_tree) (c.as_slice.ensures.value ∙ sym c.taken.ensures)) c.parts_bounds.ensures in
+    let both = c.and.ensures.covers (sizes (of_list us)) (heights (of_list us)) (sizes (of_list ns))
+    (heights (of_list ns)) parts c.annotation_bounds.ensures in
     let over = c.over-bounds.ensures.covers _ _ both in
-    node_bounded (after x) us ns c.over-bounds.result (sym (altered_children t ps x is suit)) (altered_annotations t ps x is) over
+    node_bounded (after x) us ns c.over-bounds.result (sym (altered_children t ps x is suit))
+    (altered_annotations t ps x is) over

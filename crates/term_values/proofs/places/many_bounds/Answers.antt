@@ -15,6 +15,7 @@ loop-part-preserved c =
     let done = map standing_tree (take i ps) in
     let v = standing_tree p in
     let b = c.and-all.result in
-    let both = c.and-all.ensures.covers (sizes (of_list done)) (heights (of_list done)) (size v) (height v) c.loop-part.invariant c.bounds.ensures in
+    let both = c.and-all.ensures.covers (sizes (of_list done)) (heights (of_list done)) (size v) (height v)
+    c.loop-part.invariant c.bounds.ensures in
     subst (λ (us : List Tree). AllBounded us b) (sym (trees_more ps i p c.loop-part-test.true c.part-item.is))
     (all_bounded_more done v b both)

@@ -15,10 +15,15 @@ returns-then-parts-eq2 c =
     let q = c.index-parts-1.result in
     let v = standing_tree p in
     let w = standing_tree q in
-    let one = all_bounded_more [] v c.and-first.result (c.and-first.ensures.covers 0 0 (size v) (height v) c.of_none.ensures.covers c.bounds.ensures) in
+    let one = all_bounded_more [] v c.and-first.result
+    (c.and-first.ensures.covers 0 0 (size v) (height v) c.of_none.ensures.covers c.bounds.ensures) in
     let two = all_bounded_more (v ∷ []) w c.and.result
-    (c.and.ensures.covers (sizes (of_list (v ∷ []))) (heights (of_list (v ∷ []))) (size w) (height w) one c.bounds-then-parts-eq2.ensures) in
-    let first : map standing_tree (take 1 ps) ≡ v ∷ [] = trees_more ps 0 p (omega (arith, c.if-parts-eq2.true)) c.index-parts-0.is in
-    let both : map standing_tree ps ≡ v ∷ w ∷ [] = ap (map standing_tree) (sym (take_all 2 ps (omega (arith, c.if-parts-eq2.true))))
-    ∙ trees_more ps 1 q (omega (arith, c.if-parts-eq2.true)) c.index-parts-1.is ∙ ap (λ (us : List Tree). us ++ w ∷ []) first in
+    (c.and.ensures.covers (sizes (of_list (v ∷ []))) (heights (of_list (v ∷ []))) (size w) (height w) one
+    c.bounds-then-parts-eq2.ensures) in
+    let first : map standing_tree (take 1 ps) ≡ v ∷ [] =
+    trees_more ps 0 p (omega (arith, c.if-parts-eq2.true)) c.index-parts-0.is in
+    let both : map standing_tree ps ≡ v ∷ w ∷ [] =
+    ap (map standing_tree) (sym (take_all 2 ps (omega (arith, c.if-parts-eq2.true))))
+    ∙ trees_more ps 1 q (omega (arith, c.if-parts-eq2.true)) c.index-parts-1.is
+    ∙ ap (λ (us : List Tree). us ++ w ∷ []) first in
     subst (λ (us : List Tree). AllBounded us c.and.result) (sym both) two

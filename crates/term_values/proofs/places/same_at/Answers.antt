@@ -4,9 +4,11 @@ use Rattle.term_values.proofs.places.same_at.Goals as goal
 
 pub same-requires : goal.same-requires
 same-requires c =
-    nth_within c.args.terms.now c.args.within c.args.i c.index-terms-i.result (omega (arith, c.if-i-terms.false)) c.index-terms-i.is c.requires
+    nth_within c.args.terms.now c.args.within c.args.i c.index-terms-i.result (omega (arith, c.if-i-terms.false))
+    c.index-terms-i.is c.requires
 
 pub returns : goal.returns
 returns c =
     ap Some c.same.ensures
-    ∙ sym (get_unchanged c.args.terms.now c.args.i c.index-terms-i.result (omega (arith, c.if-i-terms.false)) c.index-terms-i.is)
+    ∙ sym (get_unchanged c.args.terms.now c.args.i c.index-terms-i.result (omega (arith, c.if-i-terms.false))
+    c.index-terms-i.is)

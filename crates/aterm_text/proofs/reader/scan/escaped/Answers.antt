@@ -9,17 +9,20 @@ split_at-requires c = omega (arith, prefix_len-le-length is_plain c.args.text.no
 
 pub loop-after-init : goal.loop-after-init
 loop-after-init c = (
-  run_at_start _ _ _ _ c.args.run c.requires c.split_at.ensures.front c.split_at.ensures.back c.in_ok-bytes.ensures.items,
+  run_at_start _ _ _ _ c.args.run c.requires c.split_at.ensures.front c.split_at.ensures.back
+      c.in_ok-bytes.ensures.items,
   rest_stops c.args.text.now _ c.args.run c.requires c.split_at.ensures.back,
 )
 
 pub returns-in_default-escape-clause-none : goal.returns-in_default-escape-clause-none
 returns-in_default-escape-clause-none c = λ e.
-    none_read _ _ _ c.loop-after.invariant.0 (no_escape _ _ c.in-Some.ensures.some c.in_default-escape.ensures.none) (no_quote _ _ c.in-Some.ensures.some)
+    none_read _ _ _ c.loop-after.invariant.0 (no_escape _ _ c.in-Some.ensures.some c.in_default-escape.ensures.none)
+    (no_quote _ _ c.in-Some.ensures.some)
 
 pub loop-after-preserved : goal.loop-after-preserved
 loop-after-preserved c = (
-  run_after _ _ _ _ _ _ _ _ _ c.loop-after.invariant.0 c.in-Some.ensures.some c.in-Some-escape.ensures.some c.in-Some-escape.ensures.shorter c.first_run.ensures.run c.first_run.ensures.rest
+  run_after _ _ _ _ _ _ _ _ _ c.loop-after.invariant.0 c.in-Some.ensures.some c.in-Some-escape.ensures.some
+      c.in-Some-escape.ensures.shorter c.first_run.ensures.run c.first_run.ensures.rest
       (c.in_ok-extend_from_slice.ensures.items ∙ ap (λ l. l ++ c.first_run.result.0.now) c.in_ok-push.ensures.items),
   rest_stops c.in-Some-escape.after.now _ _ refl c.first_run.ensures.rest,
 )
@@ -28,4 +31,5 @@ pub returns-in-Some-after_byte-clause-found : goal.returns-in-Some-after_byte-cl
 returns-in-Some-after_byte-clause-found c = all_read _ _ _ _ c.loop-after.invariant.0 c.in-Some-after_byte.ensures.some
 
 pub returns-clause-none : goal.returns-clause-none
-returns-clause-none c = λ e. none_read _ _ _ c.loop-after.invariant.0 (no_item _ c.loop-after.invariant.1 c.in_default.ensures.none) c.in-None.ensures.none
+returns-clause-none c = λ e. none_read _ _ _ c.loop-after.invariant.0
+    (no_item _ c.loop-after.invariant.1 c.in_default.ensures.none) c.in-None.ensures.none

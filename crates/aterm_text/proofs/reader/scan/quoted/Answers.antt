@@ -8,5 +8,6 @@ pub returns-in-Some-clause-found : goal.returns-in-Some-clause-found
 returns-in-Some-clause-found c = (
   ap (λ (name : Symbol). name.is_quoted) c.in_ok-quoted.ensures,
   subst (λ (name : Symbol). ReadsItems name.text c.args.text.now c.in-Some.left.now) (sym c.in_ok-quoted.ensures)
-      (all_read _ _ _ _ (run_at_start _ _ _ _ _ refl c.first_run.ensures.run c.first_run.ensures.rest refl) c.in-Some.ensures.some),
+      (all_read _ _ _ _ (run_at_start _ _ _ _ _ refl c.first_run.ensures.run c.first_run.ensures.rest refl)
+      c.in-Some.ensures.some),
 )

@@ -11,4 +11,10 @@ compact-requires-clause-space c =
 
 pub returns-then-count-gt1-clause-count : goal.returns-then-count-gt1-clause-count
 returns-then-count-gt1-clause-count c =
-    omega (arith, length-entries c.self.inside.replaced.items c.self.inside.paths.items, length-entries c.compact.new.replaced.items c.compact.new.paths.items, ap length c.self.view_is, c.compact.ensures.count)
+    omega (
+      arith,
+      length-entries c.self.inside.replaced.items c.self.inside.paths.items,
+      length-entries c.compact.new.replaced.items c.compact.new.paths.items,
+      ap length c.self.view_is,
+      c.compact.ensures.count,
+    )

@@ -7,13 +7,17 @@ use Rattle.change_log.proofs.log.Log.flip_forward.Goals as goal
 
 pub invariant_of-self : goal.invariant_of-self
 invariant_of-self c =
-    let back = take_at c.flip_forward.new.replaced _ c.self.inside.replaced.len (c.flip_forward.auto.replaced ∙ c.deref_mut.ensures.len) in
+    let back = take_at c.flip_forward.new.replaced _ c.self.inside.replaced.len
+    (c.flip_forward.auto.replaced ∙ c.deref_mut.ensures.len) in
     let count = ap length back in
-    let same : length c.flip_forward.new.replaced ≡ length c.self.inside.replaced.items = c.flip_forward.auto.replaced ∙ ap length c.deref_mut.ensures.value in (
+    let same : length c.flip_forward.new.replaced ≡ length c.self.inside.replaced.items = c.flip_forward.auto.replaced
+    ∙ ap length c.deref_mut.ensures.value in (
       ap depths back ∙ c.flip_forward.ensures.depths ∙ ap depths c.deref_mut.ensures.value ∙ c.self.invariant.0,
       λ more. omega (arith, count, same, more, c.self.invariant.1 (omega (arith, count, same, more))),
       c.self.invariant.2 ∙ sym
-          (ap (λ rs. texts (entries rs c.self.inside.paths.items)) back ∙ ap (λ ps. texts (entries c.flip_forward.new.replaced ps)) (sym c.deref.ensures.value)
-          ∙ ap texts c.flip_forward.ensures.log ∙ texts_forward (entries c.deref_mut.result.now c.deref.result.now) c.args.store.now
+          (ap (λ rs. texts (entries rs c.self.inside.paths.items)) back
+          ∙ ap (λ ps. texts (entries c.flip_forward.new.replaced ps)) (sym c.deref.ensures.value)
+          ∙ ap texts c.flip_forward.ensures.log
+          ∙ texts_forward (entries c.deref_mut.result.now c.deref.result.now) c.args.store.now
           ∙ (λ k. texts (entries (c.deref_mut.ensures.value k) (c.deref.ensures.value k)))),
     )

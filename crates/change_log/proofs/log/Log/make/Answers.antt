@@ -36,17 +36,38 @@ invariant_of-self-2 c =
     let ts = c.plan.inside.paths.items in
     let now = c.flip_forward.new.replaced in
     let back = take_at now _ c.plan.inside.changes.len (c.flip_forward.auto.replaced ∙ c.deref_mut.ensures.len) in
-    let all : c.add_all.new.to.items ≡ rs ++ now = c.add_all.ensures ∙ (λ i. c.in_ok-reserve.ensures.items i ++ back i) in
-    let paths : c.extend_from_slice.new.self.items ≡ ps ++ ts = c.in_ok-extend_from_slice.ensures.items ∙ ap (λ l. ps ++ l) c.deref.ensures.value in
+    let all : c.add_all.new.to.items ≡ rs ++ now = c.add_all.ensures
+    ∙ (λ i. c.in_ok-reserve.ensures.items i ++ back i) in
+    let paths : c.extend_from_slice.new.self.items ≡ ps ++ ts = c.in_ok-extend_from_slice.ensures.items
+    ∙ ap (λ l. ps ++ l) c.deref.ensures.value in
     let depth : depths now ≡ depths qs = c.flip_forward.ensures.depths ∙ ap depths c.deref_mut.ensures.value in
     let made : entries now ts ≡ flipped_forward (entries qs ts) c.args.store.now =
     ap (entries now) (sym c.deref-3.ensures.value) ∙ c.flip_forward.ensures.log
     ∙ (λ i. flipped_forward (entries (c.deref_mut.ensures.value i) (c.deref-3.ensures.value i)) c.args.store.now) in
     let counts : length c.add_all.new.to.items ≡ c.len-2.result + c.len-3.result =
-    omega (arith, ap length all, length-append rs now, c.flip_forward.auto.replaced, ap length c.deref_mut.ensures.value, c.len-2.ensures, c.len-3.ensures, ap length c.in_ok-reserve.ensures.items, c.reserve.new.self.ok.0, c.plan.inside.changes.ok.0) in
-    let texts_are = ap texts (made_entries rs qs now c.add_all.new.to.items ps ts c.extend_from_slice.new.self.items c.self.invariant.0 c.plan.invariant depth all paths _ made) in (
-      made_depths rs qs now c.add_all.new.to.items ps ts c.extend_from_slice.new.self.items c.self.invariant.0 c.plan.invariant depth all paths,
-      λ more. omega (arith, counts, more, c.in_ok-make_space.ensures.room (omega (arith, counts, more)), c.make_space.new.space.ok.0),
+    omega (
+      arith,
+      ap length all,
+      length-append rs now,
+      c.flip_forward.auto.replaced,
+      ap length c.deref_mut.ensures.value,
+      c.len-2.ensures,
+      c.len-3.ensures,
+      ap length c.in_ok-reserve.ensures.items,
+      c.reserve.new.self.ok.0,
+      c.plan.inside.changes.ok.0,
+    ) in
+    let texts_are = ap texts (made_entries rs qs now c.add_all.new.to.items ps ts c.extend_from_slice.new.self.items
+    c.self.invariant.0 c.plan.invariant depth all paths _ made) in (
+      made_depths rs qs now c.add_all.new.to.items ps ts c.extend_from_slice.new.self.items c.self.invariant.0
+          c.plan.invariant depth all paths,
+      λ more. omega (
+        arith,
+        counts,
+        more,
+        c.in_ok-make_space.ensures.room (omega (arith, counts, more)),
+        c.make_space.new.space.ok.0,
+      ),
       omega (
         arith,
         texts_are,
@@ -66,11 +87,14 @@ returns-clause-log c =
     let ts = c.plan.inside.paths.items in
     let now = c.flip_forward.new.replaced in
     let back = take_at now _ c.plan.inside.changes.len (c.flip_forward.auto.replaced ∙ c.deref_mut.ensures.len) in
-    let all : c.add_all.new.to.items ≡ rs ++ now = c.add_all.ensures ∙ (λ i. c.in_ok-reserve.ensures.items i ++ back i) in
-    let paths : c.extend_from_slice.new.self.items ≡ ps ++ ts = c.in_ok-extend_from_slice.ensures.items ∙ ap (λ l. ps ++ l) c.deref.ensures.value in
+    let all : c.add_all.new.to.items ≡ rs ++ now = c.add_all.ensures
+    ∙ (λ i. c.in_ok-reserve.ensures.items i ++ back i) in
+    let paths : c.extend_from_slice.new.self.items ≡ ps ++ ts = c.in_ok-extend_from_slice.ensures.items
+    ∙ ap (λ l. ps ++ l) c.deref.ensures.value in
     let depth : depths now ≡ depths qs = c.flip_forward.ensures.depths ∙ ap depths c.deref_mut.ensures.value in
     let made : entries now ts ≡ flipped_forward (entries qs ts) c.args.store.now =
     ap (entries now) (sym c.deref-3.ensures.value) ∙ c.flip_forward.ensures.log
     ∙ (λ i. flipped_forward (entries (c.deref_mut.ensures.value i) (c.deref-3.ensures.value i)) c.args.store.now) in
-    made_entries rs qs now c.add_all.new.to.items ps ts c.extend_from_slice.new.self.items c.self.invariant.0 c.plan.invariant depth all paths _ made
+    made_entries rs qs now c.add_all.new.to.items ps ts c.extend_from_slice.new.self.items c.self.invariant.0
+    c.plan.invariant depth all paths _ made
     ∙ (λ i. c.self.view_is i ++ flipped_forward (c.plan.view_is i) c.args.store.now)

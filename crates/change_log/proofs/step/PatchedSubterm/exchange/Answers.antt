@@ -6,13 +6,15 @@ use Rattle.change_log.proofs.step.PatchedSubterm.exchange.Goals as goal
 pub returns-clause-back : goal.returns-clause-back
 returns-clause-back c =
     let p = c.args.self.now in
-    ap (patch_entries p.slot p.path.items) (c.exchange_patch.ensures.patch ∙ ap (λ q. taken_slot p.patch p.slot q c.args.store.now) c.deref.ensures.value)
+    ap (patch_entries p.slot p.path.items)
+    (c.exchange_patch.ensures.patch ∙ ap (λ q. taken_slot p.patch p.slot q c.args.store.now) c.deref.ensures.value)
     ∙ sym (keeps_both_ways p.patch p.slot p.path.items c.args.store.now).1
 
 pub returns-clause-forward : goal.returns-clause-forward
 returns-clause-forward c =
     let p = c.args.self.now in
-    ap (patch_entries p.slot p.path.items) (c.exchange_patch.ensures.patch ∙ ap (λ q. taken_slot p.patch p.slot q c.args.store.now) c.deref.ensures.value)
+    ap (patch_entries p.slot p.path.items)
+    (c.exchange_patch.ensures.patch ∙ ap (λ q. taken_slot p.patch p.slot q c.args.store.now) c.deref.ensures.value)
     ∙ sym (keeps_both_ways p.patch p.slot p.path.items c.args.store.now).0
 
 pub returns-clause-store_back : goal.returns-clause-store_back
@@ -28,4 +30,5 @@ returns-clause-store_forward c =
     ∙ sym (leads_both_ways p.patch p.slot p.path.items c.args.store.now).0
 
 pub returns-clause-compact : goal.returns-clause-compact
-returns-clause-compact c = patches_are_compact c.args.self.now.slot c.args.self.now.path.items c.exchange_patch.new.patch
+returns-clause-compact c =
+    patches_are_compact c.args.self.now.slot c.args.self.now.path.items c.exchange_patch.new.patch

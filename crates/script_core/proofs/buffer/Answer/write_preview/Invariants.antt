@@ -7,7 +7,8 @@ use Rattle.script_core.proofs.buffer.Answer.write_preview.Given as goal
 abbrev pub invariant-loop-path : goal.invariant-loop-path
 invariant-loop-path l = record {
   there : AreIn l.tree l.places;
-  text : l.initial.self ++ flat_map (entry_line l.tree) l.initial.places ≡ l.self ++ flat_map (entry_line l.tree) l.places;
+  text : l.initial.self ++ flat_map (entry_line l.tree) l.initial.places
+      ≡ l.self ++ flat_map (entry_line l.tree) l.places;
 }
 
 abbrev pub decreases-loop-path : goal.decreases-loop-path

@@ -12,25 +12,37 @@ loop-at-init c = record {
 
 pub returns-in-Some : goal.returns-in-Some
 returns-in-Some c =
-    let within : c.loop-at.at + c.take_run-at.result ≤ length c.args.bytes.now = run_within _ _ _ c.loop-at.invariant.in_range c.take_run-at.ensures.within in
-    let here : c.loop-at.at + c.take_run-at.result < length c.args.bytes.now = omega (arith, within, c.if-at-bytes.false) in
+    let within : c.loop-at.at + c.take_run-at.result ≤ length c.args.bytes.now =
+    run_within _ _ _ c.loop-at.invariant.in_range c.take_run-at.ensures.within in
+    let here : c.loop-at.at + c.take_run-at.result < length c.args.bytes.now =
+    omega (arith, within, c.if-at-bytes.false) in
     let there = command_there _ c.in-Some.ensures.there in
-    let goes = Goes-byte _ _ _ _ _ (Goes-run _ _ _ _ _ c.loop-at.invariant.goes _ c.take_run-at.ensures.goes) _ here c.in-Some.ensures.completes in
-    (omega arith, omega (arith, here), there.0, there.1, λ framing x out h. goes_after _ _ framing x out h _ _ (rw there.1 at goes))
+    let goes = Goes-byte _ _ _ _ _ (Goes-run _ _ _ _ _ c.loop-at.invariant.goes _ c.take_run-at.ensures.goes) _ here
+    c.in-Some.ensures.completes in (
+      omega arith,
+      omega (arith, here),
+      there.0,
+      there.1,
+      λ framing x out h. goes_after _ _ framing x out h _ _ (rw there.1 at goes),
+    )
 
 pub loop-at-preserved : goal.loop-at-preserved
 loop-at-preserved c =
-    let within : c.loop-at.at + c.take_run-at.result ≤ length c.args.bytes.now = run_within _ _ _ c.loop-at.invariant.in_range c.take_run-at.ensures.within in
-    let here : c.loop-at.at + c.take_run-at.result < length c.args.bytes.now = omega (arith, within, c.if-at-bytes.false) in
+    let within : c.loop-at.at + c.take_run-at.result ≤ length c.args.bytes.now =
+    run_within _ _ _ c.loop-at.invariant.in_range c.take_run-at.ensures.within in
+    let here : c.loop-at.at + c.take_run-at.result < length c.args.bytes.now =
+    omega (arith, within, c.if-at-bytes.false) in
     record {
       none = c.loop-at.invariant.none;
-      goes = Goes-byte _ _ _ _ _ (Goes-run _ _ _ _ _ c.loop-at.invariant.goes _ c.take_run-at.ensures.goes) None here c.in_default.ensures.goes;
+      goes = Goes-byte _ _ _ _ _ (Goes-run _ _ _ _ _ c.loop-at.invariant.goes _ c.take_run-at.ensures.goes) None here
+          c.in_default.ensures.goes;
       in_range = omega (arith, here);
     }
 
 pub returns-after-loop-at : goal.returns-after-loop-at
 returns-after-loop-at c framing x out h =
-    goes_after_all _ _ framing x out h _ c.loop-at.at (omega (arith, c.loop-at-test.false)) (rw c.loop-at.invariant.none c.loop-at.invariant.goes)
+    goes_after_all _ _ framing x out h _ c.loop-at.at (omega (arith, c.loop-at-test.false))
+    (rw c.loop-at.invariant.none c.loop-at.invariant.goes)
 
 pub returns-then-at-bytes : goal.returns-then-at-bytes
 returns-then-at-bytes c framing x out h =

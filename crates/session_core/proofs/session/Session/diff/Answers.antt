@@ -9,4 +9,5 @@ pub returns-clause-same : goal.returns-clause-same
 returns-clause-same g c = c.diff.ensures.same.same c.self.inside.primitives ∙ c.self.view_is
 
 pub returns-clause-refused : goal.returns-clause-refused
-returns-clause-refused g c = untold c.diff.result c.self.inside.primitives c.self.inside.timeline c.args.self.now c.self.view_is c.diff.ensures.refused
+returns-clause-refused g c = untold c.diff.result c.self.inside.primitives c.self.inside.timeline c.args.self.now
+    c.self.view_is c.diff.ensures.refused

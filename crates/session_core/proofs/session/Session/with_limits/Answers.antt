@@ -6,7 +6,8 @@ use Rattle.session_core.proofs.session.Session.with_limits.Goals as goal
 
 pub invariant_of-result : goal.invariant_of-result
 invariant_of-result g c = record {
-  sound = subst HasSoundContents (sym (c.new.ensures c.args.primitives)) (tt, sound_no_contents c.args.primitives c.args.limits.max_tokens, tt);
+  sound = subst HasSoundContents (sym (c.new.ensures c.args.primitives))
+      (tt, sound_no_contents c.args.primitives c.args.limits.max_tokens, tt);
   kept = c.new-2.ensures c.args.primitives (contents c.new.result.store).modules;
 }
 

@@ -11,8 +11,10 @@ loop-left-preserved-then-touched c = record {
   enough = omega (arith, c.loop-left.invariant.enough, c.loop-left-test.true, c.back-has_text.ensures.position);
   value = λ ps.
       let one_more : c.loop-left.left ≡ suc (c.loop-left.left - 1) = omega (arith, c.loop-left-test.true) in
-      c.loop-left.invariant.value ps ∙ ap (λ n. undone n (unfolded ps c.loop-left.self)) one_more ∙ ap (option_and_then (λ h. undone (c.loop-left.left - 1) h)) (c.back-has_text.ensures.moves.value ps);
-  texts = subst (λ b. OnFalse b (c.back-has_text.new.self.store.modules ≡ c.args.self.now.store.modules)) (sym c.if-touched.true) tt;
+      c.loop-left.invariant.value ps ∙ ap (λ n. undone n (unfolded ps c.loop-left.self)) one_more
+      ∙ ap (option_and_then (λ h. undone (c.loop-left.left - 1) h)) (c.back-has_text.ensures.moves.value ps);
+  texts = subst (λ b. OnFalse b (c.back-has_text.new.self.store.modules ≡ c.args.self.now.store.modules))
+      (sym c.if-touched.true) tt;
 }
 
 pub loop-left-preserved : goal.loop-left-preserved
@@ -21,8 +23,11 @@ loop-left-preserved c = record {
   enough = omega (arith, c.loop-left.invariant.enough, c.loop-left-test.true, c.back-has_text.ensures.position);
   value = λ ps.
       let one_more : c.loop-left.left ≡ suc (c.loop-left.left - 1) = omega (arith, c.loop-left-test.true) in
-      c.loop-left.invariant.value ps ∙ ap (λ n. undone n (unfolded ps c.loop-left.self)) one_more ∙ ap (option_and_then (λ h. undone (c.loop-left.left - 1) h)) (c.back-has_text.ensures.moves.value ps);
+      c.loop-left.invariant.value ps ∙ ap (λ n. undone n (unfolded ps c.loop-left.self)) one_more
+      ∙ ap (option_and_then (λ h. undone (c.loop-left.left - 1) h)) (c.back-has_text.ensures.moves.value ps);
   texts = on_false c.back-has_text.result (λ none.
-      subst (λ b. OnFalse b (c.back-has_text.new.self.store.modules ≡ c.loop-left.self.store.modules)) none c.back-has_text.ensures.moves.texts
-      ∙ subst (λ b. OnFalse b (c.loop-left.self.store.modules ≡ c.args.self.now.store.modules)) c.if-touched.false c.loop-left.invariant.texts);
+      subst (λ b. OnFalse b (c.back-has_text.new.self.store.modules ≡ c.loop-left.self.store.modules)) none
+      c.back-has_text.ensures.moves.texts
+      ∙ subst (λ b. OnFalse b (c.loop-left.self.store.modules ≡ c.args.self.now.store.modules)) c.if-touched.false
+      c.loop-left.invariant.texts);
 }

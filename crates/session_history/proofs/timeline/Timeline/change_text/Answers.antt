@@ -9,9 +9,13 @@ returns-clause-ok g c = rw (← c.self.view_is) (
     let t = logged c.self.inside in
     let e = slot_text c.args.slot c.args.text in
     let place = slot_within t.store.modules c.args.name.now c.args.slot (rw (← c.self.view_is) at c.requires.slot) in
-    puts t _ e c.of_text-step.ensures.store (many_changes t c.of_text-step.new.store c.add.new.logs.items c.of_text-step.result [] (rw (← c.self.view_is) at c.requires.outside) refl
-    (adds_one e t.store c.of_text-step.new.store [] c.of_text-step.result place c.of_text-step.ensures.store c.of_text-step.ensures.step)
-    (adds_alone (take t.position t.logs) c.add.new.logs.items c.of_text-step.result (found e t.store) (c.add.ensures.logs ∙ ap (λ l. take t.position l ++ c.of_text-step.result ∷ []) c.in-Ok.ensures.items) c.of_text-step.ensures.step)
+    puts t _ e c.of_text-step.ensures.store (many_changes t c.of_text-step.new.store c.add.new.logs.items
+    c.of_text-step.result [] (rw (← c.self.view_is) at c.requires.outside) refl
+    (adds_one e t.store c.of_text-step.new.store [] c.of_text-step.result place c.of_text-step.ensures.store
+    c.of_text-step.ensures.step)
+    (adds_alone (take t.position t.logs) c.add.new.logs.items c.of_text-step.result (found e t.store)
+    (c.add.ensures.logs ∙ ap (λ l. take t.position l ++ c.of_text-step.result ∷ []) c.in-Ok.ensures.items)
+    c.of_text-step.ensures.step)
     _ c.add.ensures.position c.self.invariant))
 
 pub invariant_of-self-2 : goal.invariant_of-self-2
@@ -19,7 +23,11 @@ invariant_of-self-2 g c =
     let t = logged c.self.inside in
     let e = slot_text c.args.slot c.args.text in
     let place = slot_within t.store.modules c.args.name.now c.args.slot (rw (← c.self.view_is) at c.requires.slot) in
-    many_placed t c.of_text-step.new.store c.add.new.logs.items c.of_text-step.result [] (rw (← c.self.view_is) at c.requires.outside) refl
-    (adds_one e t.store c.of_text-step.new.store [] c.of_text-step.result place c.of_text-step.ensures.store c.of_text-step.ensures.step)
-    (adds_alone (take t.position t.logs) c.add.new.logs.items c.of_text-step.result (found e t.store) (c.add.ensures.logs ∙ ap (λ l. take t.position l ++ c.of_text-step.result ∷ []) c.in-Ok.ensures.items) c.of_text-step.ensures.step)
+    many_placed t c.of_text-step.new.store c.add.new.logs.items c.of_text-step.result []
+    (rw (← c.self.view_is) at c.requires.outside) refl
+    (adds_one e t.store c.of_text-step.new.store [] c.of_text-step.result place c.of_text-step.ensures.store
+    c.of_text-step.ensures.step)
+    (adds_alone (take t.position t.logs) c.add.new.logs.items c.of_text-step.result (found e t.store)
+    (c.add.ensures.logs ∙ ap (λ l. take t.position l ++ c.of_text-step.result ∷ []) c.in-Ok.ensures.items)
+    c.of_text-step.ensures.step)
     _ c.add.ensures.position c.self.invariant

@@ -9,8 +9,10 @@ use Rattle.session_history.proofs.timeline.Timeline.dump_texts.Given as goal
 -- the commands written so far, followed by those still to come, are the whole text
 abbrev pub invariant-loop-name : goal.invariant-loop-name
 invariant-loop-name l = record {
-  text : l.initial.out.items ++ module_lines (contents l.self.store) l.names ≡ l.out.items ++ module_lines (contents l.self.store) (drop l.name-index l.names);
-  labels : AllByRecursion (λ name. label_of name ≡ Some name) (drop l.name-index l.names) → AllByRecursion (λ name. label_of name ≡ Some name) l.names;
+  text : l.initial.out.items ++ module_lines (contents l.self.store) l.names
+      ≡ l.out.items ++ module_lines (contents l.self.store) (drop l.name-index l.names);
+  labels : AllByRecursion (λ name. label_of name ≡ Some name) (drop l.name-index l.names)
+      → AllByRecursion (λ name. label_of name ≡ Some name) l.names;
   grows : Extends l.initial.out.items l.out.items;
   room : vec_capacity l.initial.out ≤ vec_capacity l.out;
 }

@@ -10,9 +10,12 @@ use Rattle.session_history.proofs.timeline.Timeline.dump_trees.Given as goal
 -- the lines written so far, followed by those still to come, are the whole text
 abbrev pub invariant-loop-name : goal.invariant-loop-name
 invariant-loop-name l = record {
-  text : l.initial.out.items ++ flat_map (λ name. option_map_or (tree_line name) (finmap.get (contents l.self.store).trees name) []) l.names
-      ≡ l.out.items ++ flat_map (λ name. option_map_or (tree_line name) (finmap.get (contents l.self.store).trees name) []) (drop l.name-index l.names);
-  terms : AllByRecursion (IsNamedTerm (contents l.self.store)) (drop l.name-index l.names) → AllByRecursion (IsNamedTerm (contents l.self.store)) l.names;
+  text : l.initial.out.items
+      ++ flat_map (λ name. option_map_or (tree_line name) (finmap.get (contents l.self.store).trees name) []) l.names
+      ≡ l.out.items ++ flat_map (λ name.
+      option_map_or (tree_line name) (finmap.get (contents l.self.store).trees name) []) (drop l.name-index l.names);
+  terms : AllByRecursion (IsNamedTerm (contents l.self.store)) (drop l.name-index l.names)
+      → AllByRecursion (IsNamedTerm (contents l.self.store)) l.names;
   grows : Extends l.initial.out.items l.out.items;
   room : vec_capacity l.initial.out ≤ vec_capacity l.out;
 }

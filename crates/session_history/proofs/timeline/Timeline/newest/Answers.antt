@@ -9,4 +9,5 @@ returns-clause-base c =
     let t = logged c.self.inside in
     let some : t.position - 1 + 1 ≡ t.position = omega arith in
     rw (← c.self.view_is) (λ outside. last_leads t c.self.invariant outside c.index.result.now (t.position - 1) some
-    (slice_get-get_or t.logs (t.position - 1) c.index.result.now (omega (arith, some, c.self.invariant.within)) ∙ ap Some (sym c.index.ensures)))
+    (slice_get-get_or t.logs (t.position - 1) c.index.result.now (omega (arith, some, c.self.invariant.within))
+    ∙ ap Some (sym c.index.ensures)))

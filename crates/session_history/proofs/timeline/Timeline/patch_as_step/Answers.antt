@@ -10,9 +10,13 @@ invariant_of-self-2 c =
     let t = logged c.self.inside in
     let es = patch_entries c.args.slot c.args.path.items c.args.patch in
     let step = c.patched-step.result in
-    many_placed t c.patched-step.new.store c.add.new.logs.items step [] (rw (← c.self.view_is) at c.requires.outside) refl
-    (adds_many es t.store c.patched-step.new.store [] step (rw (← c.self.view_is) at c.requires.places) c.patched-step.ensures.store c.patched-step.ensures.step)
-    (adds_compact (take t.position t.logs) c.add.new.logs.items step (c.add.ensures.logs ∙ ap (λ l. take t.position l ++ step ∷ []) c.in_ok-reserve.ensures.items) c.patched-step.ensures.compact)
+    many_placed t c.patched-step.new.store c.add.new.logs.items step []
+    (rw (← c.self.view_is) at c.requires.outside) refl
+    (adds_many es t.store c.patched-step.new.store [] step (rw (← c.self.view_is) at c.requires.places)
+    c.patched-step.ensures.store c.patched-step.ensures.step)
+    (adds_compact (take t.position t.logs) c.add.new.logs.items step
+    (c.add.ensures.logs ∙ ap (λ l. take t.position l ++ step ∷ []) c.in_ok-reserve.ensures.items)
+    c.patched-step.ensures.compact)
     _ c.add.ensures.position c.self.invariant
 
 pub returns-clause-ok : goal.returns-clause-ok
@@ -20,7 +24,11 @@ returns-clause-ok c = rw (← c.self.view_is) (
     let t = logged c.self.inside in
     let es = patch_entries c.args.slot c.args.path.items c.args.patch in
     let step = c.patched-step.result in
-    many_changes t c.patched-step.new.store c.add.new.logs.items step [] (rw (← c.self.view_is) at c.requires.outside) refl
-    (adds_many es t.store c.patched-step.new.store [] step (rw (← c.self.view_is) at c.requires.places) c.patched-step.ensures.store c.patched-step.ensures.step)
-    (adds_compact (take t.position t.logs) c.add.new.logs.items step (c.add.ensures.logs ∙ ap (λ l. take t.position l ++ step ∷ []) c.in_ok-reserve.ensures.items) c.patched-step.ensures.compact)
+    many_changes t c.patched-step.new.store c.add.new.logs.items step []
+    (rw (← c.self.view_is) at c.requires.outside) refl
+    (adds_many es t.store c.patched-step.new.store [] step (rw (← c.self.view_is) at c.requires.places)
+    c.patched-step.ensures.store c.patched-step.ensures.step)
+    (adds_compact (take t.position t.logs) c.add.new.logs.items step
+    (c.add.ensures.logs ∙ ap (λ l. take t.position l ++ step ∷ []) c.in_ok-reserve.ensures.items)
+    c.patched-step.ensures.compact)
     _ c.add.ensures.position c.self.invariant)

@@ -26,25 +26,33 @@ module _ (g : Over) (c : After-put g) where
   -- the modules with the new one in its place
   placed : after ≡ with_module c.args.name.now c.in_ok-new.new.modules.items before
   placed =
-      ap (with_modules c.place_among-at.result.0 c.place_among-at.result.1 c.in_ok-new.new.modules.items) (sym c.modules.ensures)
-      ∙ c.place_among-at.ensures.place c.in_ok-new.new.modules.items ∙ ap (with_module c.args.name.now c.in_ok-new.new.modules.items) c.modules.ensures
+      ap (with_modules c.place_among-at.result.0 c.place_among-at.result.1 c.in_ok-new.new.modules.items)
+      (sym c.modules.ensures)
+      ∙ c.place_among-at.ensures.place c.in_ok-new.new.modules.items
+      ∙ ap (with_module c.args.name.now c.in_ok-new.new.modules.items) c.modules.ensures
 
   are : (texts : Texts) → AreModules texts before → AreModules (changed_text texts c.args.name.now text) after
-  are texts h = subst (AreModules (changed_text texts c.args.name.now text)) (sym placed) (are_given texts c.args.name.now text before c.in_ok-new.new.modules.items h c.in_ok-new.ensures.given)
+  are texts h = subst (AreModules (changed_text texts c.args.name.now text)) (sym placed)
+      (are_given texts c.args.name.now text before c.in_ok-new.new.modules.items h c.in_ok-new.ensures.given)
 
 pub returns-clause-are : goal.returns-clause-are
 returns-clause-are g c = by c.put.result c.put.ensures.modules
   where
     by : (r : Result (Unit {0}) Refusal) → OnOk r (c.put.new.self.checked.modules ≡ after g c)
-        → OnOk r ((texts : Texts) → AreModules texts (before g c) → AreModules (changed_text texts c.args.name.now (text g c)) c.put.new.self.checked.modules)
-    by (Ok _) is = λ texts h. subst (AreModules (changed_text texts c.args.name.now (text g c))) (sym is) (are g c texts h)
+        → OnOk r ((texts : Texts) → AreModules texts (before g c)
+        → AreModules (changed_text texts c.args.name.now (text g c)) c.put.new.self.checked.modules)
+    by (Ok _) is =
+        λ texts h. subst (AreModules (changed_text texts c.args.name.now (text g c))) (sym is) (are g c texts h)
     by (Err refusal) is = tt
 
 pub returns-clause-refused : goal.returns-clause-refused
 returns-clause-refused g c = by c.put.result c.put.ensures.refused
   where
-    by : (r : Result (Unit {0}) Refusal) → IfErr r (λ refusal. (refusal ≡ Memory) ⊎ Reports (first (faults (after g c) c.args.primitives.now)) refusal)
-        → IfErr r (λ refusal. (refusal ≡ Memory) ⊎ ((texts : Texts) → AreModules texts (before g c) → Checks c.args.primitives.now (changed_text texts c.args.name.now (text g c)) (Err refusal)))
+    by : (r : Result (Unit {0}) Refusal)
+        → IfErr r (λ refusal. (refusal ≡ Memory) ⊎ Reports (first (faults (after g c) c.args.primitives.now)) refusal)
+        → IfErr r (λ refusal. (refusal ≡ Memory) ⊎ ((texts : Texts) → AreModules texts (before g c)
+        → Checks c.args.primitives.now (changed_text texts c.args.name.now (text g c)) (Err refusal)))
     by (Ok _) told = tt
     by (Err refusal) (inl memory) = inl memory
-    by (Err refusal) (inr reports) = inr (λ texts h. checks_by c.args.primitives.now (changed_text texts c.args.name.now (text g c)) (after g c) refusal (are g c texts h) reports)
+    by (Err refusal) (inr reports) = inr (λ texts h. checks_by c.args.primitives.now
+        (changed_text texts c.args.name.now (text g c)) (after g c) refusal (are g c texts h) reports)

@@ -10,10 +10,12 @@ returns-in_ok-put_back-in-Err-clause-err g c =
     let n = c.len-before.result in
     let end = n + c.len.result in
     let parts = between ms new c.args.after.items n c.len.result
-    (c.len-before.ensures ∙ c.self.inside.modules.ok.0 ∙ ap (λ (k : Checked). length k.modules) c.self.view_is) (c.len.ensures ∙ c.args.new.ok.0) in
+    (c.len-before.ensures ∙ c.self.inside.modules.ok.0 ∙ ap (λ (k : Checked). length k.modules) c.self.view_is)
+    (c.len.ensures ∙ c.args.new.ok.0) in
     let all = ap (λ (k : Checked). k.modules) c.self-2.view_is ∙ c.in_ok-put_back.ensures.modules in
     let program = ap (λ (k : Checked). k.program) c.self-2.view_is ∙ c.put_back.ensures.program in
-    let kept = c.truncate.ensures.items ∙ ap (take n) (c.in_ok-after-in-Err.ensures.kept ∙ ap (take end) all) ∙ parts.0 in
+    let kept = c.truncate.ensures.items ∙ ap (take n) (c.in_ok-after-in-Err.ensures.kept ∙ ap (take end) all)
+    ∙ parts.0 in
     let rest = c.in_ok-after-in-Err.ensures.rest ∙ ap (drop end) all ∙ parts.1 in
     inr (
       c.in_ok-put_back-in-Err.ensures.modules ∙ (λ i. kept i ++ (c.args.old.items ++ rest i)),

@@ -7,7 +7,8 @@ use Rattle.strategy_check.proofs.program.Program.replace_bodies.Goals as goal
 abbrev with_bodies_in : Table → List Resolved → Program
 with_bodies_in table bodies = record { table = table; bodies = bodies }
 
-with_table : {T E : Type 0} (r : Result T E) (table : Table) (inside bodies all : List Resolved) → inside ≡ bodies → OnOk r (bodies ≡ all) →
+with_table : {T E : Type 0} (r : Result T E) (table : Table) (inside bodies all : List Resolved)
+    → inside ≡ bodies → OnOk r (bodies ≡ all) →
     OnOk r (with_bodies_in table inside ≡ with_bodies_in table all)
 with_table (Ok x) table inside bodies all e h = ap (with_bodies_in table) (e ∙ h)
 with_table (Err x) table inside bodies all e h = tt

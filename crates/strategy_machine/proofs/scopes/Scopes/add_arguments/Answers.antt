@@ -7,7 +7,8 @@ pub each-init : goal.each-init
 each-init c = added_none _ _ _
 
 pub argument-known-requires : goal.argument-known-requires
-argument-known-requires c = omega (arith, c.requires, starts-length (scopes c.args.self.now) (scopes c.each.self) c.each.invariant.stay)
+argument-known-requires c =
+    omega (arith, c.requires, starts-length (scopes c.args.self.now) (scopes c.each.self) c.each.invariant.stay)
 
 pub add_name-requires-clause-there : goal.add_name-requires-clause-there
 add_name-requires-clause-there c = c.each.invariant.there

@@ -33,7 +33,8 @@ returns-clause-items c = ok_map c.pass.result (λ found p x ends.
     let r = last_walk _ _ _ _ _ c.args.self.now x has c.self.invariant c.self.view_is ends in
     let low : (c.len-walk.result - 1) + 1 ≡ length i.walks.items = omega (arith, i.walks.ok.0, (walk_length r).1) in
     let w = c.index_mut.result.now in
-    let was : r.walk ≡ w = sym (c.index_mut.ensures.value ∙ get_last r.outer i.walks.items r.walk w (c.len-walk.result - 1) r.walks low) in
+    let was : r.walk ≡ w =
+    sym (c.index_mut.ensures.value ∙ get_last r.outer i.walks.items r.walk w (c.len-walk.result - 1) r.walks low) in
     let front = frames_of r.front r.outer i.starts.items i.fronts.items i.firsts.items in (
       front,
       w,

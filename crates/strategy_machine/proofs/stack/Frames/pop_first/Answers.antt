@@ -9,23 +9,34 @@ take_last-requires-2 c = let i = c.self.inside in
       arith,
       i.firsts.ok.0,
       sort_left has_first c.take_last.new.self.items i.slots.items c.take_last.result (length i.firsts.items)
-          (sort_ends has_first c.take_last.new.self.items i.slots.items c.take_last.result i.walks.items i.starts.items i.fronts.items i.firsts.items c.args.self.now c.take_last.ensures.items c.self.invariant c.self.view_is c.requires) c.take_last.ensures.items c.self.invariant.firsts,
+          (sort_ends has_first c.take_last.new.self.items i.slots.items c.take_last.result i.walks.items i.starts.items
+          i.fronts.items i.firsts.items c.args.self.now c.take_last.ensures.items c.self.invariant c.self.view_is
+          c.requires) c.take_last.ensures.items c.self.invariant.firsts,
     )
 
 pub invariant_of-self : goal.invariant_of-self
 invariant_of-self c = let i = c.self.inside in shorter_fits
-    (first_more c.take_last.new.self.items c.take_last.new.self.items i.slots.items c.take_last.result i.walks.items i.starts.items i.fronts.items c.take_last-2.new.self.items c.take_last-2.new.self.items i.firsts.items c.take_last-2.result
-    (sort_ends has_first c.take_last.new.self.items i.slots.items c.take_last.result i.walks.items i.starts.items i.fronts.items i.firsts.items c.args.self.now c.take_last.ensures.items c.self.invariant c.self.view_is c.requires)
+    (first_more c.take_last.new.self.items c.take_last.new.self.items i.slots.items c.take_last.result i.walks.items
+    i.starts.items i.fronts.items c.take_last-2.new.self.items c.take_last-2.new.self.items i.firsts.items
+    c.take_last-2.result
+    (sort_ends has_first c.take_last.new.self.items i.slots.items c.take_last.result i.walks.items i.starts.items
+    i.fronts.items i.firsts.items c.args.self.now c.take_last.ensures.items c.self.invariant c.self.view_is c.requires)
     c.take_last.ensures.items refl c.take_last-2.ensures.items refl) c.self.invariant
 
 pub returns-clause-items : goal.returns-clause-items
 returns-clause-items c = let i = c.self.inside in removed
-    (first_more c.take_last.new.self.items c.take_last.new.self.items i.slots.items c.take_last.result i.walks.items i.starts.items i.fronts.items c.take_last-2.new.self.items c.take_last-2.new.self.items i.firsts.items c.take_last-2.result
-    (sort_ends has_first c.take_last.new.self.items i.slots.items c.take_last.result i.walks.items i.starts.items i.fronts.items i.firsts.items c.args.self.now c.take_last.ensures.items c.self.invariant c.self.view_is c.requires)
+    (first_more c.take_last.new.self.items c.take_last.new.self.items i.slots.items c.take_last.result i.walks.items
+    i.starts.items i.fronts.items c.take_last-2.new.self.items c.take_last-2.new.self.items i.firsts.items
+    c.take_last-2.result
+    (sort_ends has_first c.take_last.new.self.items i.slots.items c.take_last.result i.walks.items i.starts.items
+    i.fronts.items i.firsts.items c.args.self.now c.take_last.ensures.items c.self.invariant c.self.view_is c.requires)
     c.take_last.ensures.items refl c.take_last-2.ensures.items refl) c.self.invariant _ c.self.view_is
 
 pub returns-clause-len : goal.returns-clause-len
 returns-clause-len c = let i = c.self.inside in removed_length
-    (first_more c.take_last.new.self.items c.take_last.new.self.items i.slots.items c.take_last.result i.walks.items i.starts.items i.fronts.items c.take_last-2.new.self.items c.take_last-2.new.self.items i.firsts.items c.take_last-2.result
-    (sort_ends has_first c.take_last.new.self.items i.slots.items c.take_last.result i.walks.items i.starts.items i.fronts.items i.firsts.items c.args.self.now c.take_last.ensures.items c.self.invariant c.self.view_is c.requires)
+    (first_more c.take_last.new.self.items c.take_last.new.self.items i.slots.items c.take_last.result i.walks.items
+    i.starts.items i.fronts.items c.take_last-2.new.self.items c.take_last-2.new.self.items i.firsts.items
+    c.take_last-2.result
+    (sort_ends has_first c.take_last.new.self.items i.slots.items c.take_last.result i.walks.items i.starts.items
+    i.fronts.items i.firsts.items c.args.self.now c.take_last.ensures.items c.self.invariant c.self.view_is c.requires)
     c.take_last.ensures.items refl c.take_last-2.ensures.items refl) c.self.invariant _ c.self.view_is

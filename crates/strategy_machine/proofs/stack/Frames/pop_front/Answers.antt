@@ -9,23 +9,34 @@ take_last-requires-2 c = let i = c.self.inside in
       arith,
       i.fronts.ok.0,
       sort_left has_front c.take_last.new.self.items i.slots.items c.take_last.result (length i.fronts.items)
-          (sort_ends has_front c.take_last.new.self.items i.slots.items c.take_last.result i.walks.items i.starts.items i.fronts.items i.firsts.items c.args.self.now c.take_last.ensures.items c.self.invariant c.self.view_is c.requires) c.take_last.ensures.items c.self.invariant.fronts,
+          (sort_ends has_front c.take_last.new.self.items i.slots.items c.take_last.result i.walks.items i.starts.items
+          i.fronts.items i.firsts.items c.args.self.now c.take_last.ensures.items c.self.invariant c.self.view_is
+          c.requires) c.take_last.ensures.items c.self.invariant.fronts,
     )
 
 pub invariant_of-self : goal.invariant_of-self
 invariant_of-self c = let i = c.self.inside in shorter_fits
-    (front_more c.take_last.new.self.items c.take_last.new.self.items i.slots.items c.take_last.result i.walks.items i.starts.items c.take_last-2.new.self.items c.take_last-2.new.self.items i.fronts.items c.take_last-2.result i.firsts.items
-    (sort_ends has_front c.take_last.new.self.items i.slots.items c.take_last.result i.walks.items i.starts.items i.fronts.items i.firsts.items c.args.self.now c.take_last.ensures.items c.self.invariant c.self.view_is c.requires)
+    (front_more c.take_last.new.self.items c.take_last.new.self.items i.slots.items c.take_last.result i.walks.items
+    i.starts.items c.take_last-2.new.self.items c.take_last-2.new.self.items i.fronts.items c.take_last-2.result
+    i.firsts.items
+    (sort_ends has_front c.take_last.new.self.items i.slots.items c.take_last.result i.walks.items i.starts.items
+    i.fronts.items i.firsts.items c.args.self.now c.take_last.ensures.items c.self.invariant c.self.view_is c.requires)
     c.take_last.ensures.items refl c.take_last-2.ensures.items refl) c.self.invariant
 
 pub returns-clause-items : goal.returns-clause-items
 returns-clause-items c = let i = c.self.inside in removed
-    (front_more c.take_last.new.self.items c.take_last.new.self.items i.slots.items c.take_last.result i.walks.items i.starts.items c.take_last-2.new.self.items c.take_last-2.new.self.items i.fronts.items c.take_last-2.result i.firsts.items
-    (sort_ends has_front c.take_last.new.self.items i.slots.items c.take_last.result i.walks.items i.starts.items i.fronts.items i.firsts.items c.args.self.now c.take_last.ensures.items c.self.invariant c.self.view_is c.requires)
+    (front_more c.take_last.new.self.items c.take_last.new.self.items i.slots.items c.take_last.result i.walks.items
+    i.starts.items c.take_last-2.new.self.items c.take_last-2.new.self.items i.fronts.items c.take_last-2.result
+    i.firsts.items
+    (sort_ends has_front c.take_last.new.self.items i.slots.items c.take_last.result i.walks.items i.starts.items
+    i.fronts.items i.firsts.items c.args.self.now c.take_last.ensures.items c.self.invariant c.self.view_is c.requires)
     c.take_last.ensures.items refl c.take_last-2.ensures.items refl) c.self.invariant _ c.self.view_is
 
 pub returns-clause-len : goal.returns-clause-len
 returns-clause-len c = let i = c.self.inside in removed_length
-    (front_more c.take_last.new.self.items c.take_last.new.self.items i.slots.items c.take_last.result i.walks.items i.starts.items c.take_last-2.new.self.items c.take_last-2.new.self.items i.fronts.items c.take_last-2.result i.firsts.items
-    (sort_ends has_front c.take_last.new.self.items i.slots.items c.take_last.result i.walks.items i.starts.items i.fronts.items i.firsts.items c.args.self.now c.take_last.ensures.items c.self.invariant c.self.view_is c.requires)
+    (front_more c.take_last.new.self.items c.take_last.new.self.items i.slots.items c.take_last.result i.walks.items
+    i.starts.items c.take_last-2.new.self.items c.take_last-2.new.self.items i.fronts.items c.take_last-2.result
+    i.firsts.items
+    (sort_ends has_front c.take_last.new.self.items i.slots.items c.take_last.result i.walks.items i.starts.items
+    i.fronts.items i.firsts.items c.args.self.now c.take_last.ensures.items c.self.invariant c.self.view_is c.requires)
     c.take_last.ensures.items refl c.take_last-2.ensures.items refl) c.self.invariant _ c.self.view_is

@@ -25,7 +25,8 @@ returns-clause-given c =
     (record { given = c.in_ok-after.ensures.given; only = c.in_ok-after.ensures.only })
     c.in-Some.rest.now c.in-Some.ensures.some c.in_ok-condition.condition c.in_ok-condition.later.now
     (record { given = c.in_ok-condition.ensures.given; only = c.in_ok-condition.ensures.only })
-    header c.in_ok-names.names.items (λ u r. c.in_ok-names.ensures.only u (subst (λ l. ReadsChoice u l []) (sym c.before_rest.ensures) r))
+    header c.in_ok-names.names.items
+    (λ u r. c.in_ok-names.ensures.only u (subst (λ l. ReadsChoice u l []) (sym c.before_rest.ensures) r))
     (defined header c.in_ok-body-2.body)
     (ap (defined header) (c.in_ok-body-2.ensures ∙ (λ i. scope (c.from_vec.ensures i) (c.in_ok-action-2.ensures i))))
 
@@ -38,7 +39,8 @@ returns-clause-only c =
     (record { given = c.in_ok-after.ensures.given; only = c.in_ok-after.ensures.only })
     c.in-Some.rest.now c.in-Some.ensures.some c.in_ok-condition.condition c.in_ok-condition.later.now
     (record { given = c.in_ok-condition.ensures.given; only = c.in_ok-condition.ensures.only })
-    header c.in_ok-names.names.items (λ u r. c.in_ok-names.ensures.only u (subst (λ l. ReadsChoice u l []) (sym c.before_rest.ensures) r))
+    header c.in_ok-names.names.items
+    (λ u r. c.in_ok-names.ensures.only u (subst (λ l. ReadsChoice u l []) (sym c.before_rest.ensures) r))
     (defined header c.in_ok-body-2.body)
     (ap (defined header) (c.in_ok-body-2.ensures ∙ (λ i. scope (c.from_vec.ensures i) (c.in_ok-action-2.ensures i))))
 
@@ -52,4 +54,5 @@ returns-in_err-names-clause-none c = λ e w y r ends.
     (record { given = c.in_ok-after.ensures.given; only = c.in_ok-after.ensures.only })
     c.in-Some.rest.now c.in-Some.ensures.some c.in_ok-condition.condition c.in_ok-condition.later.now
     (record { given = c.in_ok-condition.ensures.given; only = c.in_ok-condition.ensures.only })
-    (λ u k. c.in_err-names.ensures.none (ap Err (sym h.1)) u (subst (λ l. ReadsChoice u l []) (sym c.before_rest.ensures) k))
+    (λ u k.
+    c.in_err-names.ensures.none (ap Err (sym h.1)) u (subst (λ l. ReadsChoice u l []) (sym c.before_rest.ensures) k))

@@ -10,9 +10,11 @@ returns-in_err-next-clause-none c = λ e r l.
 pub returns-clause-given : goal.returns-clause-given
 returns-clause-given c =
     c.loop-token.invariant.back c.new-3.result
-    (all_read c.loop-token.context c.loop-token.built.constructors.items c.loop-token.built.definitions.items c.new-3.result c.loop-token.left.now (empty_is c.loop-token.left.now c.in_default.ensures.cases) c.new-3.ensures)
+    (all_read c.loop-token.context c.loop-token.built.constructors.items c.loop-token.built.definitions.items
+    c.new-3.result c.loop-token.left.now (empty_is c.loop-token.left.now c.in_default.ensures.cases) c.new-3.ensures)
 
 pub returns-clause-only : goal.returns-clause-only
 returns-clause-only c = λ r l.
-    read_all c.loop-token.context c.loop-token.built.constructors.items c.loop-token.built.definitions.items c.new-3.result r c.loop-token.left.now (empty_is c.loop-token.left.now c.in_default.ensures.cases) c.new-3.ensures
+    read_all c.loop-token.context c.loop-token.built.constructors.items c.loop-token.built.definitions.items
+    c.new-3.result r c.loop-token.left.now (empty_is c.loop-token.left.now c.in_default.ensures.cases) c.new-3.ensures
     (c.loop-token.invariant.forth r l)

@@ -7,8 +7,10 @@ use Rattle.strategy_parse.proofs.modules.sections.read_sections.Given as goal
 -- the whole module is what was read, followed by what the rest gives
 abbrev pub invariant-loop-token : goal.invariant-loop-token
 invariant-loop-token l = record {
-  forth : (m : syntax.Module) → Left Outside l.tokens m → SectionStands l.context l.built.constructors.items l.built.definitions.items l.left m;
-  back : (m : syntax.Module) → SectionStands l.context l.built.constructors.items l.built.definitions.items l.left m → Left Outside l.tokens m;
+  forth : (m : syntax.Module) → Left Outside l.tokens m
+      → SectionStands l.context l.built.constructors.items l.built.definitions.items l.left m;
+  back : (m : syntax.Module) → SectionStands l.context l.built.constructors.items l.built.definitions.items l.left m
+      → Left Outside l.tokens m;
 }
 
 abbrev pub decreases-loop-token : goal.decreases-loop-token

@@ -7,4 +7,5 @@ returns-in-Err-Syntax-clause-no c = λ e m g. c.in-Err-Syntax.ensures.none (ap E
 pub returns-in-Err-Syntax-read_sections-clause-no :
     goal.returns-in-Err-Syntax-read_sections-clause-no
 returns-in-Err-Syntax-read_sections-clause-no c = λ e m g.
-    c.in-Err-Syntax-read_sections.ensures.none (ap Err c.in-Err-Syntax-read_sections.field-0-is) m (c.in-Ok.ensures.forth m g)
+    c.in-Err-Syntax-read_sections.ensures.none (ap Err c.in-Err-Syntax-read_sections.field-0-is) m
+    (c.in-Ok.ensures.forth m g)

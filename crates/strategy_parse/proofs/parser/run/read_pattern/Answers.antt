@@ -7,18 +7,22 @@ pub returns-in_err-strategy-clause-none : goal.returns-in_err-strategy-clause-no
 returns-in_err-strategy-clause-none c =
     λ e.
     let h = rw e at c.from_residual.ensures in
-    pattern-none c.args.tokens.now (forms c.new.result) c.new.ensures (c.in_err-strategy.ensures.none (ap Err (sym h.1)))
+    pattern-none c.args.tokens.now (forms c.new.result) c.new.ensures
+    (c.in_err-strategy.ensures.none (ap Err (sym h.1)))
 
 pub returns-in-Match-clause-given : goal.returns-in-Match-clause-given
 returns-in-Match-clause-given c =
-    pattern-given c.args.tokens.now (forms c.new.result) c.new.ensures c.in_ok-strategy.strategy c.in-Match.pattern c.in_ok-strategy.left.now c.in_ok-strategy.ensures.ok c.in-Match.ensures
+    pattern-given c.args.tokens.now (forms c.new.result) c.new.ensures c.in_ok-strategy.strategy c.in-Match.pattern
+    c.in_ok-strategy.left.now c.in_ok-strategy.ensures.ok c.in-Match.ensures
 
 pub returns-in-Match-clause-only : goal.returns-in-Match-clause-only
 returns-in-Match-clause-only c =
-    pattern-only c.args.tokens.now (forms c.new.result) c.new.ensures c.in_ok-strategy.strategy c.in-Match.pattern c.in_ok-strategy.left.now c.in_ok-strategy.ensures.ok c.in-Match.ensures
+    pattern-only c.args.tokens.now (forms c.new.result) c.new.ensures c.in_ok-strategy.strategy c.in-Match.pattern
+    c.in_ok-strategy.left.now c.in_ok-strategy.ensures.ok c.in-Match.ensures
 
 pub returns-in_default-clause-none : goal.returns-in_default-clause-none
 returns-in_default-clause-none c =
     λ e p y h stops.
-    let is = pattern-is c.args.tokens.now (forms c.new.result) c.new.ensures c.in_ok-strategy.strategy c.in_ok-strategy.left.now c.in_ok-strategy.ensures.ok p y h stops in
+    let is = pattern-is c.args.tokens.now (forms c.new.result) c.new.ensures c.in_ok-strategy.strategy
+    c.in_ok-strategy.left.now c.in_ok-strategy.ensures.ok p y h stops in
     other-form c.into_form.result p (sym c.into_form.ensures ∙ sym is.0) c.in_default.not-Match

@@ -7,7 +7,9 @@ pub returns-clause-none : goal.returns-clause-none
 returns-clause-none c = λ e. strategy-none c.args.tokens.now (forms c.new.result) c.new.ensures (c.run.ensures.none e)
 
 pub returns-clause-given : goal.returns-clause-given
-returns-clause-given c = IfOk-weaker c.run.result _ _ (λ read. strategy-given c.args.tokens.now (forms c.new.result) c.new.ensures read.0 read.1.now) c.run.ensures.ok
+returns-clause-given c = IfOk-weaker c.run.result _ _
+    (λ read. strategy-given c.args.tokens.now (forms c.new.result) c.new.ensures read.0 read.1.now) c.run.ensures.ok
 
 pub returns-clause-only : goal.returns-clause-only
-returns-clause-only c = IfOk-weaker c.run.result _ _ (λ read. strategy-only c.args.tokens.now (forms c.new.result) c.new.ensures read.0 read.1.now) c.run.ensures.ok
+returns-clause-only c = IfOk-weaker c.run.result _ _
+    (λ read. strategy-only c.args.tokens.now (forms c.new.result) c.new.ensures read.0 read.1.now) c.run.ensures.ok

@@ -10,7 +10,8 @@ use Rattle.term_changes.proofs.patch.Patch.exchange.Goals as goal
 
 pub returns-else-marks-gt0-clause-tree : goal.returns-else-marks-gt0-clause-tree
 returns-else-marks-gt0-clause-tree c =
-    sym (none_changed c.self.inside.marks.items (reverse c.self.inside.terms.items) c.args.tree.now (omega (arith, ap length c.as_slice-marks.ensures.value, c.if-marks-gt0.false)))
+    sym (none_changed c.self.inside.marks.items (reverse c.self.inside.terms.items) c.args.tree.now
+    (omega (arith, ap length c.as_slice-marks.ensures.value, c.if-marks-gt0.false)))
     ∙ ap (λ d. changed d c.args.tree.now) c.self.view_is
 
 pub returns-then-marks-gt0-clause-patch : goal.returns-then-marks-gt0-clause-patch
@@ -23,5 +24,7 @@ returns-then-marks-gt0-clause-patch c =
     ap (λ k. take k (now ++ rest)) (sym (w.as_many ∙ c.as_mut_slice.ensures.len)) ∙ take-append_seam now rest in
     (λ j. (first_item (read (reverse (sym c.as_slice-marks.ensures.value j)) (reverse (kept j)))).1)
     ∙ ap (λ (x : Item). x.1) (walked_now ms c.as_mut_slice.result.now now _ _ _ _ w)
-    ∙ (λ j. taken (first_item (read (reverse (c.as_slice-marks.ensures.value j)) (reverse (c.as_mut_slice.ensures.value j)))).1 c.args.tree.now)
+    ∙ (λ j.
+    taken (first_item (read (reverse (c.as_slice-marks.ensures.value j)) (reverse (c.as_mut_slice.ensures.value j)))).1
+    c.args.tree.now)
     ∙ ap (λ d. taken d c.args.tree.now) c.self.view_is

@@ -16,5 +16,6 @@ decreases-have_instances g l = 2 * resolved_patterns_depth (resolved_patterns_of
 
 abbrev pub invariant-have_instances-loop-part : goal.invariant-have_instances-loop-part
 invariant-have_instances-loop-part g l =
-    is_some (build_patterns (resolved_patterns_of (drop l.part-index l.parts)) (g.P.VariableCells.cells l.variables) l.self.bindings)
+    is_some (build_patterns (resolved_patterns_of (drop l.part-index l.parts)) (g.P.VariableCells.cells l.variables)
+    l.self.bindings)
     ≡ is_some (build_patterns (resolved_patterns_of l.parts) (g.P.VariableCells.cells l.variables) l.self.bindings)

@@ -8,10 +8,12 @@ abbrev pub decreases-instance : goal.decreases-instance
 decreases-instance g l = 4 * resolved_pattern_depth l.pattern.now
 
 abbrev pub decreases-with_tail : goal.decreases-with_tail
-decreases-with_tail g l = 4 * max (resolved_patterns_depth (resolved_patterns_of l.parts.now)) (resolved_pattern_depth l.tail.now) + 3
+decreases-with_tail g l =
+    4 * max (resolved_patterns_depth (resolved_patterns_of l.parts.now)) (resolved_pattern_depth l.tail.now) + 3
 
 abbrev pub decreases-annotated : goal.decreases-annotated
-decreases-annotated g l = 4 * max (resolved_pattern_depth l.inner.now) (resolved_patterns_depth (resolved_patterns_of l.annotations.now)) + 3
+decreases-annotated g l =
+    4 * max (resolved_pattern_depth l.inner.now) (resolved_patterns_depth (resolved_patterns_of l.annotations.now)) + 3
 
 abbrev pub decreases-with_all : goal.decreases-with_all
 decreases-with_all g l = 4 * resolved_patterns_depth (resolved_patterns_of l.annotations.now) + 2
@@ -31,5 +33,6 @@ decreases-instances g l = 4 * resolved_patterns_depth (resolved_patterns_of l.pa
 abbrev pub invariant-instances-loop-part : goal.invariant-instances-loop-part
 invariant-instances-loop-part g l =
     option_map (λ us. l.all.items ++ us)
-    (build_patterns (resolved_patterns_of (drop l.part-index l.parts)) (g.P.VariableCells.cells l.variables) l.self.bindings)
+    (build_patterns (resolved_patterns_of (drop l.part-index l.parts)) (g.P.VariableCells.cells l.variables)
+    l.self.bindings)
     ≡ build_patterns (resolved_patterns_of l.parts) (g.P.VariableCells.cells l.variables) l.self.bindings

@@ -27,14 +27,17 @@ decreases-match_annotations g l = 3 * resolved_patterns_depth (resolved_patterns
 
 abbrev pub invariant-match_children-loop-i : goal.invariant-match_children-loop-i
 invariant-match_children-loop-i g l = record {
-  matched : matched_from l.patterns (take (length l.patterns) (children l.value)) (g.P.VariableCells.cells l.variables) l.i l.self.bindings
-      ≡ match_patterns (resolved_patterns_of l.patterns) (take (length l.patterns) (children l.value)) (g.P.VariableCells.cells l.variables) l.initial.self.bindings;
+  matched : matched_from l.patterns (take (length l.patterns) (children l.value)) (g.P.VariableCells.cells l.variables)
+      l.i l.self.bindings
+      ≡ match_patterns (resolved_patterns_of l.patterns) (take (length l.patterns) (children l.value))
+      (g.P.VariableCells.cells l.variables) l.initial.self.bindings;
   grows : Grows l.initial.self l.self;
 }
 
 abbrev pub invariant-match_annotations-loop-i : goal.invariant-match_annotations-loop-i
 invariant-match_annotations-loop-i g l = record {
   matched : matched_from l.patterns l.annotations.items (g.P.VariableCells.cells l.variables) l.i l.self.bindings
-      ≡ match_patterns (resolved_patterns_of l.patterns) l.annotations.items (g.P.VariableCells.cells l.variables) l.initial.self.bindings;
+      ≡ match_patterns (resolved_patterns_of l.patterns) l.annotations.items (g.P.VariableCells.cells l.variables)
+      l.initial.self.bindings;
   grows : Grows l.initial.self l.self;
 }

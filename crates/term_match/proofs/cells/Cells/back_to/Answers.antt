@@ -13,5 +13,6 @@ returns-clause-stays c =
     ∙ c.empty_all.ensures
     ∙ since_emptied (take c.args.mark.count c.args.self.now.bindings) _ c.args.self.now.filled _ c.args.mark.filled
     (c.deref.ensures.value ∙ ap (λ (x : CellContents). x.filled) v)
-    (c.deref_mut.ensures.value ∙ c.truncate.ensures.items ∙ ap (λ (x : CellContents). take c.args.mark.count x.bindings) v))
+    (c.deref_mut.ensures.value ∙ c.truncate.ensures.items ∙ ap (λ (x : CellContents). take c.args.mark.count x.bindings)
+    v))
     (c.truncate-2.ensures.items ∙ ap (λ (x : CellContents). take c.args.mark.filled x.filled) v)

@@ -12,5 +12,7 @@ pub returns-in-None : goal.returns-in-None
 returns-in-None g c =
     let empty = empty_there c.args.self.now.bindings c.in-Some.i
     (omega (arith, c.if-i-len.false, c.len.ensures, ap (λ (x : CellContents). length x.bindings) c.self.view_is))
-    (sym c.in-None.ensures) in
-    (empty, bind_empty _ c.args.variable c.args.value.now c.args.self.now.bindings c.in-Some.i (sym c.in-Some.ensures) empty)
+    (sym c.in-None.ensures) in (
+      empty,
+      bind_empty _ c.args.variable c.args.value.now c.args.self.now.bindings c.in-Some.i (sym c.in-Some.ensures) empty,
+    )

@@ -19,10 +19,12 @@ returns-then-child_count-len-clause-ok g c =
     let v = standing_tree c.args.part.now in
     let ps = c.in-Compound.parts.items in
     let is = c.form.ensures ∙ ap resolved_pattern_of c.in-Compound.is in
-    let headed : is_headed (head_of c.in-Compound._head) v ≡ true = subst (λ (q : ResolvedPattern). SharesHead q v) is c.requires in
+    let headed : is_headed (head_of c.in-Compound._head) v ≡ true =
+    subst (λ (q : ResolvedPattern). SharesHead q v) is c.requires in
     ap (λ (q : ResolvedPattern). match_pattern q v E B) is
     ∙ compound_matched (head_of c.in-Compound._head) ps v E B headed
-    ∙ counts_differ ps (children v) E B (λ e. omega (arith, e, c.child_count.ensures, c.len.ensures, c.if-child_count-len.true))
+    ∙ counts_differ ps (children v) E B
+    (λ e. omega (arith, e, c.child_count.ensures, c.len.ensures, c.if-child_count-len.true))
 
 pub returns-in-Compound-clause-ok : goal.returns-in-Compound-clause-ok
 returns-in-Compound-clause-ok g c =
@@ -33,9 +35,13 @@ returns-in-Compound-clause-ok g c =
     let ps = c.deref.result.now in
     let is = c.form.ensures ∙ ap resolved_pattern_of c.in-Compound.is in
     let headed : is_headed h v ≡ true = subst (λ (q : ResolvedPattern). SharesHead q v) is c.requires in
-    let whole = ap (λ (q : ResolvedPattern). match_pattern q v E B) (is ∙ ap (λ (l : List ResolvedPattern). compound h (resolved_patterns_of l)) (sym c.deref.ensures.value))
+    let whole = ap (λ (q : ResolvedPattern). match_pattern q v E B)
+    (is ∙ ap (λ (l : List ResolvedPattern). compound h (resolved_patterns_of l)) (sym c.deref.ensures.value))
     ∙ compound_matched h ps v E B headed
     ∙ ap (λ (us : List Tree). match_patterns (resolved_patterns_of ps) us E B)
-    (sym (take_all (length ps) (children v) (omega (arith, c.child_count.ensures, c.len.ensures, c.if-child_count-len.false, c.deref.ensures.len)))) in
-    subst (λ (o : Option Bindings). IfOk c.match_parts.result (λ r. o ≡ cond r (Some c.match_parts.new.self.bindings) None)) (sym whole)
+    (sym (take_all (length ps) (children v)
+    (omega (arith, c.child_count.ensures, c.len.ensures, c.if-child_count-len.false, c.deref.ensures.len)))) in
+    subst
+    (λ (o : Option Bindings). IfOk c.match_parts.result (λ r. o ≡ cond r (Some c.match_parts.new.self.bindings) None))
+    (sym whole)
     c.match_parts.ensures.ok

@@ -9,7 +9,9 @@ use Rattle.term_match.proofs.cells.Cells.match_parts.Given as goal
 
 abbrev pub invariant-loop-i : goal.invariant-loop-i
 invariant-loop-i g l = record {
-  matched : matched_from l.patterns (take (length l.patterns) (children (standing_tree l.part))) (g.P.VariableCells.cells l.variables) l.i l.self.bindings
-      ≡ match_patterns (resolved_patterns_of l.patterns) (take (length l.patterns) (children (standing_tree l.part))) (g.P.VariableCells.cells l.variables) l.initial.self.bindings;
+  matched : matched_from l.patterns (take (length l.patterns) (children (standing_tree l.part)))
+      (g.P.VariableCells.cells l.variables) l.i l.self.bindings
+      ≡ match_patterns (resolved_patterns_of l.patterns) (take (length l.patterns) (children (standing_tree l.part)))
+      (g.P.VariableCells.cells l.variables) l.initial.self.bindings;
   grows : Grows l.initial.self l.self;
 }

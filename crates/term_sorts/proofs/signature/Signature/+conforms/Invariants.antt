@@ -33,4 +33,5 @@ invariant-all_conform-loop-term l =
 abbrev pub invariant-each_conforms-loop-i : goal.invariant-each_conforms-loop-i
 invariant-each_conforms-loop-i l =
     (ss : List Sort) → AreNumbers l.self.sorts l.numbers ss
-    → HaveSorts l.self.declared ss (of_list l.terms) ↔ HaveSorts l.self.declared (drop l.i ss) (of_list (drop l.i l.terms))
+    → HaveSorts l.self.declared ss (of_list l.terms) ↔ HaveSorts l.self.declared (drop l.i ss)
+    (of_list (drop l.i l.terms))

@@ -6,4 +6,5 @@ use Rattle.term_sorts.proofs.signature.Signature.form.Given as goal
 
 abbrev pub invariant-loop-number : goal.invariant-loop-number
 invariant-loop-number l =
-    (k : ℕ) → k < l.number-index → (f : Form) → slice_get l.self-inside.forms.items (get_or l.number-items k 0) ≡ Some f → IsOf f.declaration l.name l.count → ⊥
+    (k : ℕ) → k < l.number-index → (f : Form) → slice_get l.self-inside.forms.items (get_or l.number-items k 0) ≡ Some f
+    → IsOf f.declaration l.name l.count → ⊥

@@ -15,7 +15,9 @@ returns-in-Some c = λ inside h.
     let w = wanted_sort s.sorts c.args.wanted in
     let t = c.args.term.now in
     let found = c.in-Some.element in
-    let some = subst (λ (x : Signature). ElementsAre x.declared.injections x.sorts (wanted_sort x.sorts c.args.wanted) (Some found)) c.self.view_is c.in-Some.ensures in
+    let some = subst
+    (λ (x : Signature). ElementsAre x.declared.injections x.sorts (wanted_sort x.sorts c.args.wanted) (Some found))
+    c.self.view_is c.in-Some.ensures in
     list_wants s.declared s.sorts w found (of_list (children t)) (of_list (annotations t)) c.args.index inside some
     (subst (λ (x : Tree). WantsInside s.declared w x c.args.index inside) c.in-List.ensures h)
 
@@ -24,8 +26,11 @@ returns-in-None c = λ inside h.
     let s = c.args.self.now in
     let w = wanted_sort s.sorts c.args.wanted in
     let t = c.args.term.now in
-    let none = subst (λ (x : Signature). ElementsAre x.declared.injections x.sorts (wanted_sort x.sorts c.args.wanted) None) c.self.view_is c.in-None.ensures in
-    absurd (list_wants_none s.declared s.sorts w (of_list (children t)) (of_list (annotations t)) c.args.index inside none
+    let none =
+    subst (λ (x : Signature). ElementsAre x.declared.injections x.sorts (wanted_sort x.sorts c.args.wanted) None)
+    c.self.view_is c.in-None.ensures in
+    absurd
+    (list_wants_none s.declared s.sorts w (of_list (children t)) (of_list (annotations t)) c.args.index inside none
     (subst (λ (x : Tree). WantsInside s.declared w x c.args.index inside) c.in-List.ensures h))
 
 pub returns-in-Of : goal.returns-in-Of
@@ -34,8 +39,10 @@ returns-in-Of c = λ inside h.
     let w = wanted_sort s.sorts c.args.wanted in
     let t = c.args.term.now in
     let count = c.child_count-count.result in
-    let of = subst (λ (x : Signature). PartsWanted x.declared.injections x.sorts (wanted_sort x.sorts c.args.wanted) count (Of c.in-Of.numbers)) c.self.view_is c.in-Of.ensures in
-    tuple_wants s.declared s.sorts w count c.in-Of.numbers (of_list (children t)) (of_list (annotations t)) c.args.index inside c.numbered.result
+    let of = subst (λ (x : Signature). PartsWanted x.declared.injections x.sorts (wanted_sort x.sorts c.args.wanted)
+    count (Of c.in-Of.numbers)) c.self.view_is c.in-Of.ensures in
+    tuple_wants s.declared s.sorts w count c.in-Of.numbers (of_list (children t)) (of_list (annotations t)) c.args.index
+    inside c.numbered.result
     (ap length (to_list-of_list (children t)) ∙ sym c.child_count-count.ensures) of c.numbered.ensures
     (subst (λ (x : Tree). WantsInside s.declared w x c.args.index inside) c.in-Tuple.ensures h)
 
@@ -46,7 +53,9 @@ returns-in-Some-form c = λ inside h.
     let t = c.args.term.now in
     let form = c.in-Some-form.form.now in
     let e = c.in-Some-form.ensures in
-    application_wants s.declared e.agreed.0 s.sorts w c.in-Application.name.now (of_list (children t)) (of_list (annotations t)) c.args.index inside form.declaration e.declared
-    (e.head.0 ∙ c.child_count-count.ensures ∙ ap length (sym (to_list-of_list (children t)))) e.head.1 form.arguments.items c.numbered-in-Some-form.result e.form.0
+    application_wants s.declared e.agreed.0 s.sorts w c.in-Application.name.now (of_list (children t))
+    (of_list (annotations t)) c.args.index inside form.declaration e.declared
+    (e.head.0 ∙ c.child_count-count.ensures ∙ ap length (sym (to_list-of_list (children t)))) e.head.1
+    form.arguments.items c.numbered-in-Some-form.result e.form.0
     (c.numbered-in-Some-form.ensures ∙ ap (λ (l : List ℕ). slice_get l c.args.index) c.deref.ensures.value)
     (subst (λ (x : Tree). WantsInside s.declared w x c.args.index inside) c.in-Application.ensures h)

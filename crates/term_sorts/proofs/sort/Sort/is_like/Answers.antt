@@ -19,9 +19,12 @@ returns c =
     let s = c.args.self.now in
     let q = c.args.other.now in
     let m : c.len.result ≡ length (arguments_of s) =
-    omega (arith, ap length (arguments_read c.self.inside s c.self.view_is), c.len.ensures, c.self.inside.arguments.ok.0) in
+    omega
+    (arith, ap length (arguments_read c.self.inside s c.self.view_is), c.len.ensures, c.self.inside.arguments.ok.0) in
     let n : c.len-2.result ≡ length (arguments_of q) =
-    omega (arith, ap length (arguments_read c.other.inside q c.other.view_is), c.len-2.ensures, c.other.inside.arguments.ok.0) in (
+    omega
+    (arith, ap length (arguments_read c.other.inside q c.other.view_is), c.len-2.ensures, c.other.inside.arguments.ok.0)
+    in (
       λ h. inr (
         c.len-2.result,
         (arguments_of s, c.is_tuple.ensures.0 c.if-not-is_tuple.false, sym m ∙ eqb-true c.len.result c.len-2.result h),

@@ -8,8 +8,14 @@ number_of-numbers_of-requires t c =
     (omega (arith, arguments_depth c.args.sort.now c.arguments.result.now c.arguments.ensures, c.decreases), tt)
 
 pub numbers_of-number_of-requires : goal.numbers_of-number_of-requires
-numbers_of-number_of-requires t c =
-    (omega (arith, depths-item c.args.sorts.now c.loop-sort.sort-index c.sort-item.result c.loop-sort-test.true c.sort-item.is, c.decreases), tt)
+numbers_of-number_of-requires t c = (
+  omega (
+    arith,
+    depths-item c.args.sorts.now c.loop-sort.sort-index c.sort-item.result c.loop-sort-test.true c.sort-item.is,
+    c.decreases,
+  ),
+  tt,
+)
 
 pub numbers_of-loop-sort-preserved : goal.numbers_of-loop-sort-preserved
 numbers_of-loop-sort-preserved t c =
@@ -17,7 +23,8 @@ numbers_of-loop-sort-preserved t c =
     let next = c.number_of.new.self in record {
       kept = extends_on c.args.self.now here next c.loop-sort.invariant.kept c.number_of.ensures.kept;
       numbers = rw c.in_ok-push.ensures.items
-          (numbers_more next.sorts c.loop-sort.numbers.items c.args.sorts.now c.loop-sort.sort-index c.in_ok-number_of.field-0 c.sort-item.result
+          (numbers_more next.sorts c.loop-sort.numbers.items c.args.sorts.now c.loop-sort.sort-index
+          c.in_ok-number_of.field-0 c.sort-item.result
           c.loop-sort-test.true c.sort-item.is
           (numbers_extend here next c.number_of.ensures.kept c.loop-sort.numbers.items _ c.loop-sort.invariant.numbers)
           c.in_ok-number_of.ensures.number);

@@ -13,11 +13,17 @@ loop-number-preserved c =
     below_more (λ k. IsNumber sorts k c.args.sort.now → ⊥) i c.loop-number.invariant (λ e.
     let is : IsNumber sorts i r.sort =
     subst (λ (l : List Sort). IsNumber l i r.sort) (ap (λ t. t.sorts) c.self.view_is)
-    (number_of_row rows i r (read_row rows c.deref-row-items.result.now i r c.deref-row-items.ensures.value c.loop-number-test.true c.row-item.is)) in
+    (number_of_row rows i r (read_row rows c.deref-row-items.result.now i r c.deref-row-items.ensures.value
+    c.loop-number-test.true c.row-item.is)) in
     let yes = c.if-equals.ensures.1 (one_sort sorts i r.sort c.args.sort.now is e) in cc)
 
 pub returns-clause-none : goal.returns-clause-none
 returns-clause-none c = λ h.
     let e = subst (λ (l : List Sort). IsNumber l h.0 c.args.sort.now) (sym (ap (λ t. t.sorts) c.self.view_is)) h.1 in
     c.loop-number.invariant h.0
-    (omega (arith, number_below c.self.inside.rows.items h.0 c.args.sort.now e, ap length c.deref-row-items.ensures.value, c.loop-number-test.false)) h.1
+    (omega (
+      arith,
+      number_below c.self.inside.rows.items h.0 c.args.sort.now e,
+      ap length c.deref-row-items.ensures.value,
+      c.loop-number-test.false,
+    )) h.1

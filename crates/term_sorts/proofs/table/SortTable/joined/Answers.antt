@@ -17,8 +17,10 @@ returns-then-have_clash-clause-none c = λ agreed.
     let gained = c.in_ok-gained.gained.items in
     let of_from = subst (λ (t : Table). IsNumber t.sorts c.args.from i.from) (sym c.self.view_is) c.requires.from in
     let of_to = subst (λ (t : Table). IsNumber t.sorts c.args.to i.to) (sym c.self.view_is) c.requires.to in
-    let read : slice_get rows c.args.from ≡ Some r = ap (λ (l : List Row). slice_get l c.args.from) (sym c.deref.ensures.value) ∙ sym c.in-Some.ensures in
-    let all = all_gained rows is c.self.invariant i.from c.args.from r gained of_from read (c.in_ok-gained.ensures.items ∙ c.deref-2.ensures.value) in
+    let read : slice_get rows c.args.from ≡ Some r =
+    ap (λ (l : List Row). slice_get l c.args.from) (sym c.deref.ensures.value) ∙ sym c.in-Some.ensures in
+    let all = all_gained rows is c.self.invariant i.from c.args.from r gained of_from read
+    (c.in_ok-gained.ensures.items ∙ c.deref-2.ensures.value) in
     let clash = c.have_clash.ensures.0 c.if-have_clash.true in
     clash_shows rows is c.self.invariant i.from i.to c.args.from c.args.to of_from of_to gained all
     (subst (λ (l : List ℕ). HaveClash rows c.args.to l) c.deref-4.ensures.value
@@ -34,15 +36,20 @@ invariant_of-result c =
     let gained = c.in_ok-gained.gained.items in
     let of_from = subst (λ (t : Table). IsNumber t.sorts c.args.from i.from) (sym c.self.view_is) c.requires.from in
     let of_to = subst (λ (t : Table). IsNumber t.sorts c.args.to i.to) (sym c.self.view_is) c.requires.to in
-    let read : slice_get rows c.args.from ≡ Some r = ap (λ (l : List Row). slice_get l c.args.from) (sym c.deref.ensures.value) ∙ sym c.in-Some.ensures in
-    let all = all_gained rows is c.self.invariant i.from c.args.from r gained of_from read (c.in_ok-gained.ensures.items ∙ c.deref-2.ensures.value) in
+    let read : slice_get rows c.args.from ≡ Some r =
+    ap (λ (l : List Row). slice_get l c.args.from) (sym c.deref.ensures.value) ∙ sym c.in-Some.ensures in
+    let all = all_gained rows is c.self.invariant i.from c.args.from r gained of_from read
+    (c.in_ok-gained.ensures.items ∙ c.deref-2.ensures.value) in
     let new = c.gain_all.new.rows.items in
     let clear : HaveClash rows c.args.to gained → ⊥ = λ h.
-    let yes = c.have_clash.ensures.1 (subst (λ (l : List Row). HaveClash l c.args.to c.deref-4.result.now) (sym c.deref-3.ensures.value)
+    let yes = c.have_clash.ensures.1
+    (subst (λ (l : List Row). HaveClash l c.args.to c.deref-4.result.now) (sym c.deref-3.ensures.value)
     (subst (λ (l : List ℕ). HaveClash rows c.args.to l) (sym c.deref-4.ensures.value) h)) in
     let not = c.if-have_clash.false in cc in
-    let zip = subst (λ (l : List ℕ). AllZip (Gains c.args.to l) rows new) c.deref-5.ensures.value c.in_ok-gain_all.ensures in
-    subst (λ (l : List Injection). IsTable new l) (ap (λ (j : Injection). is ++ j ∷ []) (sym c.in_ok-try_clone.ensures) ∙ sym c.in_ok-push.ensures.items)
+    let zip =
+    subst (λ (l : List ℕ). AllZip (Gains c.args.to l) rows new) c.deref-5.ensures.value c.in_ok-gain_all.ensures in
+    subst (λ (l : List Injection). IsTable new l)
+    (ap (λ (j : Injection). is ++ j ∷ []) (sym c.in_ok-try_clone.ensures) ∙ sym c.in_ok-push.ensures.items)
     (table_gained rows is c.self.invariant i.from i.to c.args.from c.args.to of_from of_to gained all new zip clear)
 
 pub returns-clause-agreed : goal.returns-clause-agreed
@@ -54,13 +61,17 @@ returns-clause-agreed c =
     let gained = c.in_ok-gained.gained.items in
     let of_from = subst (λ (t : Table). IsNumber t.sorts c.args.from i.from) (sym c.self.view_is) c.requires.from in
     let of_to = subst (λ (t : Table). IsNumber t.sorts c.args.to i.to) (sym c.self.view_is) c.requires.to in
-    let read : slice_get rows c.args.from ≡ Some r = ap (λ (l : List Row). slice_get l c.args.from) (sym c.deref.ensures.value) ∙ sym c.in-Some.ensures in
-    let all = all_gained rows is c.self.invariant i.from c.args.from r gained of_from read (c.in_ok-gained.ensures.items ∙ c.deref-2.ensures.value) in
+    let read : slice_get rows c.args.from ≡ Some r =
+    ap (λ (l : List Row). slice_get l c.args.from) (sym c.deref.ensures.value) ∙ sym c.in-Some.ensures in
+    let all = all_gained rows is c.self.invariant i.from c.args.from r gained of_from read
+    (c.in_ok-gained.ensures.items ∙ c.deref-2.ensures.value) in
     let clear : HaveClash rows c.args.to gained → ⊥ = λ h.
-    let yes = c.have_clash.ensures.1 (subst (λ (l : List Row). HaveClash l c.args.to c.deref-4.result.now) (sym c.deref-3.ensures.value)
+    let yes = c.have_clash.ensures.1
+    (subst (λ (l : List Row). HaveClash l c.args.to c.deref-4.result.now) (sym c.deref-3.ensures.value)
     (subst (λ (l : List ℕ). HaveClash rows c.args.to l) (sym c.deref-4.ensures.value) h)) in
     let not = c.if-have_clash.false in cc in
-    subst (λ (l : List Injection). TakeNoneAlike l) (ap (λ (j : Injection). is ++ j ∷ []) (sym c.in_ok-try_clone.ensures) ∙ sym c.in_ok-push.ensures.items)
+    subst (λ (l : List Injection). TakeNoneAlike l)
+    (ap (λ (j : Injection). is ++ j ∷ []) (sym c.in_ok-try_clone.ensures) ∙ sym c.in_ok-push.ensures.items)
     (still_agreed rows is c.self.invariant i.from i.to c.args.from c.args.to of_from of_to gained all clear)
 
 pub returns-clause-sorts : goal.returns-clause-sorts
@@ -68,5 +79,6 @@ returns-clause-sorts c =
     let rows = c.self.inside.rows.items in
     let gained = c.in_ok-gained.gained.items in
     let new = c.gain_all.new.rows.items in
-    let zip = subst (λ (l : List ℕ). AllZip (Gains c.args.to l) rows new) c.deref-5.ensures.value c.in_ok-gain_all.ensures in
+    let zip =
+    subst (λ (l : List ℕ). AllZip (Gains c.args.to l) rows new) c.deref-5.ensures.value c.in_ok-gain_all.ensures in
     sorts_gained c.args.to gained rows new zip ∙ ap (λ (t : Table). t.sorts) c.self.view_is

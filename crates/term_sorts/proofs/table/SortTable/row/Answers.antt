@@ -8,7 +8,8 @@ use Rattle.term_sorts.proofs.WantedLemmas.{is_row_of}
 use Rattle.term_sorts.proofs.table.SortTable.row.Goals as goal
 
 pub returns-in_err-wanted-clause-agreed : goal.returns-in_err-wanted-clause-agreed
-returns-in_err-wanted-clause-agreed c = subst (λ (t : Table). TakeNoneAlike t.injections) c.self.view_is c.self.invariant.agreed
+returns-in_err-wanted-clause-agreed c =
+    subst (λ (t : Table). TakeNoneAlike t.injections) c.self.view_is c.self.invariant.agreed
 
 pub returns-clause-row : goal.returns-clause-row
 returns-clause-row c =

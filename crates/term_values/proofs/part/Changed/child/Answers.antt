@@ -9,5 +9,6 @@ use Rattle.term_values.proofs.part.Changed.child.Goals as goal
 pub returns : goal.returns
 returns c =
     let e = ap (map standing_tree) c.as_slice.ensures
-    ∙ sym (altered_children c.self.inside.of.now (parts_list c.self.inside.parts) c.args.self.now c.self.view_is c.self.invariant) in
+    ∙ sym (altered_children c.self.inside.of.now (parts_list c.self.inside.parts) c.args.self.now c.self.view_is
+    c.self.invariant) in
     subst (λ (us : List Tree). IfOk c.tree_at.result (λ tree. tree ≡ slice_get us c.args.i)) e c.tree_at.ensures

@@ -6,4 +6,5 @@ use Rattle.term_values.proofs.part.Changed.child_count.Goals as goal
 pub returns : goal.returns
 returns c =
     ap length c.as_slice.ensures
-    ∙ altered_count c.self.inside.of.now (parts_list c.self.inside.parts) c.args.self.now c.self.view_is c.self.invariant
+    ∙ altered_count c.self.inside.of.now (parts_list c.self.inside.parts) c.args.self.now c.self.view_is
+    c.self.invariant

@@ -7,4 +7,5 @@ use Rattle.term_values.proofs.part.Changed.run.Goals as goal
 pub returns : goal.returns
 returns c =
     ap (map standing_tree) c.as_slice.ensures
-    ∙ sym (altered_children c.self.inside.of.now (parts_list c.self.inside.parts) c.args.self.now c.self.view_is c.self.invariant)
+    ∙ sym (altered_children c.self.inside.of.now (parts_list c.self.inside.parts) c.args.self.now c.self.view_is
+    c.self.invariant)

@@ -9,4 +9,5 @@ pub returns-clause-all : goal.returns-clause-all
 returns-clause-all c =
     let change = standing_change c.args.self.now in
     ap places c.finish.ensures
-    ∙ all_places change c.draft.new.draft (c.in_ok-_items.ensures.draft ∙ ap (λ l. item_of change ++ l) c.new-draft.ensures)
+    ∙ all_places change c.draft.new.draft
+    (c.in_ok-_items.ensures.draft ∙ ap (λ l. item_of change ++ l) c.new-draft.ensures)

@@ -10,6 +10,7 @@ returns-in-New c =
     let t = c.in-New.value in
     let is : fresh t ≡ c.args.self.now = ap part_standing (sym c.in-New.is) ∙ c.self.view_is in
     c.new.ensures
-    ∙ ap fresh (c.in_ok-with_child.ensures ∙ ap (λ u. with_children t (slice_set (children t) c.args.i u)) c.into_value.ensures)
+    ∙ ap fresh
+    (c.in_ok-with_child.ensures ∙ ap (λ u. with_children t (slice_set (children t) c.args.i u)) c.into_value.ensures)
     ∙ fresh_with t c.args.i c.args.part
     ∙ ap (λ p. with_standing p (slice_set (standing_children p) c.args.i c.args.part)) is

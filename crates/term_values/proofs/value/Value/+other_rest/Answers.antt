@@ -16,31 +16,41 @@ other_rest-requires t c =
     let falls = joined_falls (front_list m.front) m.after c.args.self.now shape.some shape.list whole in
     let same = ap (λ (x : Joined). x.after) e in
     let count = ap length (c.as_slice-count.ensures ∙ ap (λ (x : Joined). front_list x.front) e) in
-    let within = after_within (front_list m.front) (children m.after) c.args.self.now c.args.skipped whole c.requires in
-    (omega (arith, falls, ap size same, c.decreases), omega (arith, within, count, ap (λ (x : Tree). length (children x)) same))
+    let within = after_within (front_list m.front) (children m.after) c.args.self.now c.args.skipped whole c.requires
+    in (
+      omega (arith, falls, ap size same, c.decreases),
+      omega (arith, within, count, ap (λ (x : Tree). length (children x)) same),
+    )
 
 pub bounded_rest-requires-clause-rest : goal.bounded_rest-requires-clause-rest
 bounded_rest-requires-clause-rest t c =
     let j = c.as_ref-list.result.now in
     let e = c.as_ref-list.ensures in
     let us = front_list j.front ++ children j.after in
-    let whole = ap (λ (x : Joined). list_term (front_list x.front ++ children x.after)) e ∙ ap form_tree (sym c.in-Joined.is) ∙ c.self.view_is in
-    c.in_ok-rest-in-Joined.ensures ∙ ap (λ vs. list_term (drop c.args.skipped vs)) (sym (list_children us c.args.self.now (sym whole)))
+    let whole = ap (λ (x : Joined). list_term (front_list x.front ++ children x.after)) e
+    ∙ ap form_tree (sym c.in-Joined.is) ∙ c.self.view_is in
+    c.in_ok-rest-in-Joined.ensures
+    ∙ ap (λ vs. list_term (drop c.args.skipped vs)) (sym (list_children us c.args.self.now (sym whole)))
 
 pub bounded_rest-requires-else-skipped-count-clause-rest : goal.bounded_rest-requires-else-skipped-count-clause-rest
 bounded_rest-requires-else-skipped-count-clause-rest t c =
     let j = c.as_ref-list.result.now in
     let e = c.as_ref-list.ensures in
-    let whole = ap (λ (x : Joined). list_term (front_list x.front ++ children x.after)) e ∙ ap form_tree (sym c.in-Joined.is) ∙ c.self.view_is in
+    let whole = ap (λ (x : Joined). list_term (front_list x.front ++ children x.after)) e
+    ∙ ap form_tree (sym c.in-Joined.is) ∙ c.self.view_is in
     let count = ap length c.as_slice-count.ensures in
     c.in_ok-rest-in-Joined-2.ensures ∙ ap (λ n. list_term (drop (c.args.skipped - n) (children j.after))) count
-    ∙ rest_of_after (front_list j.front) (children j.after) c.args.self.now c.args.skipped whole (omega (arith, count, c.if-skipped-count.false))
+    ∙ rest_of_after (front_list j.front) (children j.after) c.args.self.now c.args.skipped whole
+    (omega (arith, count, c.if-skipped-count.false))
 
 pub returns-in_ok-rest-in-Joined-2 : goal.returns-in_ok-rest-in-Joined-2
 returns-in_ok-rest-in-Joined-2 t c =
     let j = c.as_ref-list.result.now in
     let e = c.as_ref-list.ensures in
-    let whole = ap (λ (x : Joined). list_term (front_list x.front ++ children x.after)) e ∙ ap form_tree (sym c.in-Joined.is) ∙ c.self.view_is in
+    let whole = ap (λ (x : Joined). list_term (front_list x.front ++ children x.after)) e
+    ∙ ap form_tree (sym c.in-Joined.is) ∙ c.self.view_is in
     let count = ap length c.as_slice-count.ensures in
-    c.bounded_rest-else-skipped-count.ensures ∙ c.in_ok-rest-in-Joined-2.ensures ∙ ap (λ n. list_term (drop (c.args.skipped - n) (children j.after))) count
-    ∙ rest_of_after (front_list j.front) (children j.after) c.args.self.now c.args.skipped whole (omega (arith, count, c.if-skipped-count.false))
+    c.bounded_rest-else-skipped-count.ensures
+    ∙ c.in_ok-rest-in-Joined-2.ensures ∙ ap (λ n. list_term (drop (c.args.skipped - n) (children j.after))) count
+    ∙ rest_of_after (front_list j.front) (children j.after) c.args.self.now c.args.skipped whole
+    (omega (arith, count, c.if-skipped-count.false))

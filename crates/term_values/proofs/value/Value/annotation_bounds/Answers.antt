@@ -7,4 +7,5 @@ pub returns : goal.returns
 returns c =
     let t = c.args.self.now in
     let mine = bounded_along _ t c.self.inside.bounds c.self.view_is c.self.invariant.bounded in
-    c.less.ensures (size t) (height t) (sizes (of_list (annotations t))) (heights (of_list (annotations t))) mine (annotations_size t) (annotations_height t)
+    c.less.ensures (size t) (height t) (sizes (of_list (annotations t))) (heights (of_list (annotations t))) mine
+    (annotations_size t) (annotations_height t)

@@ -11,8 +11,10 @@ use Rattle.term_values.proofs.value.Value.bare.Goals as goal
 
 pub returns-then-annotation_count-eq0 : goal.returns-then-annotation_count-eq0
 returns-then-annotation_count-eq0 c =
-    let none : length (annotations c.args.self.now) ≡ 0 = omega (arith, c.annotation_count.ensures, c.if-annotation_count-eq0.true) in
-    subst (λ (x : Tree). IfOk c.try_clone.result (λ value. value ≡ x)) (bare_same c.args.self.now none) c.try_clone.ensures
+    let none : length (annotations c.args.self.now) ≡ 0 =
+    omega (arith, c.annotation_count.ensures, c.if-annotation_count-eq0.true) in
+    subst (λ (x : Tree). IfOk c.try_clone.result (λ value. value ≡ x)) (bare_same c.args.self.now none)
+    c.try_clone.ensures
 
 pub invariant_of-result : goal.invariant_of-result
 invariant_of-result c =
@@ -35,7 +37,8 @@ invariant_of-result-in-Kept c =
     let whole = ap after c.in_ok-clone-in-Kept.ensures.cases ∙ ap form_tree (sym c.in-Kept.is) ∙ c.self.view_is in
     record {
       shape = tt;
-      bounded = bounded_along (bare t) (bare (after c.in_ok-clone-in-Kept.field-0.value)) c.less-in-Kept.result (ap bare (sym whole)) less;
+      bounded = bounded_along (bare t) (bare (after c.in_ok-clone-in-Kept.field-0.value)) c.less-in-Kept.result
+          (ap bare (sym whole)) less;
     }
 
 pub returns-in-Annotated : goal.returns-in-Annotated
@@ -43,5 +46,6 @@ returns-in-Annotated c =
     let n = c.in-Annotated.annotated.value in
     let whole = ap form_tree (sym c.in-Annotated.is) ∙ c.self.view_is in
     let shape = subst (λ (f : Form). form_shape f) c.in-Annotated.is c.self.invariant.shape in
-    let e = ap (λ (x : Annotated). x.node) c.deref.ensures ∙ annotated_bare n.node c.args.self.now (annotation_list n.annotations) whole shape.bare in
+    let e = ap (λ (x : Annotated). x.node) c.deref.ensures
+    ∙ annotated_bare n.node c.args.self.now (annotation_list n.annotations) whole shape.bare in
     subst (λ (x : Tree). IfOk c.try_clone-in-Annotated.result (λ value. value ≡ x)) e c.try_clone-in-Annotated.ensures

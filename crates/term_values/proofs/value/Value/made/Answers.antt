@@ -15,5 +15,6 @@ invariant_of-result c =
     let over = c.over-bounds.ensures.covers (sizes (of_list us)) (heights (of_list us)) all in
     record {
       shape = subst (λ (x : Made). top_shape x.top (items_list x.items)) (sym c.in_ok-made.ensures.ok) c.requires;
-      bounded = subst (λ (x : Made). Bounded (top_tree x.top (items_list x.items) []) b) (sym c.in_ok-made.ensures.ok) (top_bounded c.args.top us b c.requires over);
+      bounded = subst (λ (x : Made). Bounded (top_tree x.top (items_list x.items) []) b) (sym c.in_ok-made.ensures.ok)
+          (top_bounded c.args.top us b c.requires over);
     }

@@ -10,8 +10,10 @@ invariant_of-result c =
     let k = c.args.skipped in
     let r = list_term (drop k (children t)) in
     let mine = bounded_along _ t c.self.inside.bounds c.self.view_is c.self.invariant.bounded in
-    let less = c.less.ensures (size t) (height t) (size r) (height r) mine (rest_size t k c.requires.within) (rest_height t k) in
+    let less =
+    c.less.ensures (size t) (height t) (size r) (height r) mine (rest_size t k c.requires.within) (rest_height t k) in
     record {
       shape = omega (arith, ap length c.requires.same, c.requires.within);
-      bounded = bounded_along r (list_term (drop k (children c.args.term.now))) c.less.result (ap (λ us. list_term (drop k us)) (sym c.requires.same)) less;
+      bounded = bounded_along r (list_term (drop k (children c.args.term.now))) c.less.result
+          (ap (λ us. list_term (drop k us)) (sym c.requires.same)) less;
     }

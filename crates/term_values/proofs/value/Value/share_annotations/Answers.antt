@@ -11,6 +11,7 @@ values-requires c =
     let t = c.args.self.now in
     let mine = bounded_along _ t c.self.inside.bounds c.self.view_is c.self.invariant.bounded in
     let all = within_all (annotations t) c.less-within.result (length (annotations t)) (size t) (height t)
-    (λ u p q. c.less-within.ensures (size t) (height t) (size u) (height u) mine (omega (arith, p, c.annotation_count.ensures)) q)
+    (λ u p q.
+    c.less-within.ensures (size t) (height t) (size u) (height u) mine (omega (arith, p, c.annotation_count.ensures)) q)
     (omega (arith, size_parts t)) (omega (arith, height_parts t)) in
     subst (λ (us : List Tree). AllWithin us c.less-within.result) (sym (c.alone.ensures ∙ c.annotations.ensures)) all

@@ -9,4 +9,5 @@ pub returns-in-Some : goal.returns-in-Some
 unfolding forms
 returns-in-Some c =
     let h = rw c.in-Some.is at c.first.ensures.item in
-    c.order.ensures ∙ sym (ap (λ l. order_of (reverse l)) (sym c.deref.ensures.value) ∙ order-first c.deref.result.now c.in-Some.outermost.now h.3.0 h.1)
+    c.order.ensures ∙ sym (ap (λ l. order_of (reverse l)) (sym c.deref.ensures.value)
+    ∙ order-first c.deref.result.now c.in-Some.outermost.now h.3.0 h.1)
