@@ -19,7 +19,10 @@ import subprocess
 import sys
 import time
 
-TOP = os.path.dirname(os.path.dirname(os.path.dirname(os.path.realpath(__file__))))
+sys.dont_write_bytecode = True
+sys.path.insert(0, os.path.dirname(os.path.dirname(os.path.realpath(__file__))))
+from rattle_check import TOP, crates  # noqa: E402
+
 TICKS = os.sysconf("SC_CLK_TCK")
 PAGE = os.sysconf("SC_PAGE_SIZE")
 PROOF, TESTS, EDITS = "proof", "tests", "wrong bodies"
@@ -106,17 +109,6 @@ def sums(seen):
         one["cpu"] += process["cpu"]
         one["first"], one["last"] = min(one["first"], process["first"]), max(one["last"], process["last"])
     return tasks, rest
-
-
-def crates():
-    """The crates, lowest first, and what each stands on."""
-    found = {}
-    with open(f"{TOP}/crates.txt") as lines:
-        for line in lines:
-            if ":" in line and not line.startswith("#"):
-                name, _, below = line.partition(":")
-                found[name.split()[0]] = below.split()
-    return found
 
 
 def chain(tasks, below):

@@ -22,37 +22,11 @@ import sys
 import tempfile
 
 sys.dont_write_bytecode = True
-from gate import TOP, crates  # noqa: E402
-
-sys.path.insert(0, f"{TOP}/tools")
-from c_library import kit  # noqa: E402
+sys.path.insert(0, os.path.dirname(os.path.dirname(os.path.realpath(__file__))))
+from rattle_check import TOP, check_of  # noqa: E402
 
 # What is saved for a function, at the end of a module's name.
 KIND = re.compile(r"\.(Lts|Code|Proof|Tie|TheLinks?|Met|Statement|Key|Layout|Reads|Symbol|Given|Carried|Kinds|Named)\b.*")
-
-
-def command(crate, libraries, room):
-    """The check of a crate by one job, which saves its modules in a folder."""
-    below = crates()
-    if crate not in below:
-        sys.exit(f"no crate {crate} in crates.txt")
-    ours, reached = [it for it in below if it in below[crate]], {crate}
-    for name in reversed(below):
-        if name in reached:
-            reached.update(below[name])
-
-    def folder(name):
-        return f"{libraries}/crates/{name}/out/rlib" if name in below else f"{kit()}/rlibs"
-
-    words = [f"{kit()}/bin/rattle", "check", "--crate-name", crate, "src/main.rt" if os.path.exists(f"{TOP}/crates/{crate}/src/main.rt") else "src/lib.rt"]
-    for name in ["std", *(it for it in below[crate] if it not in below), *ours]:
-        words += ["--extern", f"{name}={folder(name)}/{name}.rlib"]
-    for place in dict.fromkeys([f"{kit()}/rlibs", *(folder(it) for it in below if it in reached - {crate})]):
-        words += ["-L", f"dependency={place}"]
-    return words + [
-        *("--antt-project", f"{kit()}/rattle/logic/antt-project.json", "--logic-built", f"{kit()}/logic_built"),
-        *("--links", f"{crate}=", "--jobs", "1", "--incremental", room),
-    ]
 
 
 def saved(room):
@@ -82,7 +56,7 @@ def main(words):
     parser.add_argument("count", type=int, nargs="?", default=30)
     given = parser.parse_args(words)
     with tempfile.TemporaryDirectory() as room:
-        words = command(given.crate, os.path.realpath(given.libraries), room)
+        words = check_of(given.crate, os.path.realpath(given.libraries), room)
         ran = subprocess.run(words, cwd=f"{TOP}/crates/{given.crate}", stdout=subprocess.PIPE, stderr=subprocess.STDOUT, text=True)
         used = resource.getrusage(resource.RUSAGE_CHILDREN)
         modules = saved(room)
