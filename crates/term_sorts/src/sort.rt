@@ -56,6 +56,16 @@ impl Sort {
         })
     }
 
+    /// The sort of tuples of terms of these sorts.
+    pub fn tuple(alloc: Global, parts: Vec<Sort>) -> Result<Sort, NoMemory>
+        ensures { IfOk result (λ made. made ≡ tuple_sort parts.items) }
+    {
+        Ok(Sort {
+            name: named(alloc, TUPLE)?,
+            arguments: parts,
+        })
+    }
+
     pub fn name(&self) -> &Name
         ensures { result.now ≡ name_of self.now }
     {
