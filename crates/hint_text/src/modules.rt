@@ -336,7 +336,12 @@ pub fn module_of(alloc: Global, text: &[u8]) -> Result<Module, NoMemory> {
     match parse_module(alloc, text, MODULE_TOKENS) {
         Ok(module) => Ok(module),
         Err(ParseFault::Memory) => Err(NoMemory),
-        Err(_) => Ok(Module::new(Vec::new(alloc), Vec::new(alloc))),
+        Err(_) => Ok(Module::new(
+            Vec::new(alloc),
+            Vec::new(alloc),
+            Vec::new(alloc),
+            Vec::new(alloc),
+        )),
     }
 }
 

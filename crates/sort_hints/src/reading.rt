@@ -1,4 +1,4 @@
-//! Reading declarations from the tokens of modules. The parser drops the sorts that it reads.
+//! Reading declarations from the tokens of modules. The parser keeps their sorts, but not where each stands.
 
 use crate::signature::Signature;
 use crate::sorts::{DEEPEST, Sort};

@@ -7,7 +7,8 @@ use Rattle.strategy_tokens.specs.declared.token.Token.{Token}
 use Rattle.strategy_tokens.specs.declared.token.Token.TheVariants.{Ident, Sign as ASign}
 use Rattle.strategy_tokens.specs.declared.token.Keyword.TheVariants.{Where}
 use Rattle.strategy_tokens.specs.declared.token.Sign.TheVariants.{OpenRound, CloseRound, Comma, Colon, Bar, Equals, Arrow as RightArrow, Star}
-use Rattle.strategy_parse.specs.Written.{Sort, sort, Sorts, no_sorts, and_sort, Declaration, constant, function, Header, Defined, definition, rule, rule_where}
+use Rattle.term_sorts.specs.Sorts.{Sort, sort, Sorts, no_sorts, and_sort}
+use Rattle.strategy_parse.specs.Written.{Declaration, constant, function, Header, Defined, definition, rule, rule_where}
 use Rattle.aterm_text.specs.Grammar.{◌▸◌}
 use Rattle.strategy_parse.specs.Grammar.{Reading, Mark, ReadsNames}
 use Rattle.strategy_parse.specs.GrammarModules.{ReadsSort, ReadsMoreSorts, ReadsOptionalName, ReadsDeclaration, ReadsParameters, ReadsHeader, ReadsDefined}

@@ -3,7 +3,7 @@ use Rattle.std.proofs.Common.{◌≡◌, ℕ, zero, suc, ◌<◌, ◌≤◌, ref
 use Rattle.std.specs.declared.option.Option.{Option}
 use Rattle.strategy_syntax.specs.Syntax as syntax
 use Rattle.strategy_syntax.specs.Syntax.{Pattern, Strategy}
-use Rattle.strategy_syntax.specs.Modules.{Module, Constructor, Definition}
+use Rattle.strategy_syntax.specs.Modules.{Module, Definition}
 use Rattle.strategy_tokens.specs.declared.token.Token.{Token}
 use Rattle.strategy_tokens.specs.declared.token.Token.TheVariants.{Ident, Wildcard, Reserved, Integer, Text, Sign as ASign, Bad}
 use Rattle.strategy_tokens.specs.declared.token.Keyword.{Keyword}
@@ -16,15 +16,16 @@ use Rattle.strategy_names.specs.Free.{free_variables}
 use Rattle.strategy_parse.specs.Written.{Choice, Defined, definition, rule, rule_where}
 use Rattle.strategy_parse.specs.Grammar.{ReadsPattern, ReadsChoice}
 use Rattle.strategy_parse.specs.GrammarModules.{ReadsDefined}
-use Rattle.strategy_parse.specs.Core.{core, closed, core_definition, defined, declared, rewrite, rewrite_where}
+use Rattle.strategy_parse.specs.Core.{core, closed, core_definition, defined, rewrite, rewrite_where}
+use Rattle.strategy_parse.specs.declared.modules.declarations.Declared.{Declared}
 use Rattle.strategy_parse.specs.inside.Fronts.{Stops}
-use Rattle.strategy_parse.specs.inside.ModuleFronts.{after_mark, header_at, DeclaredLeft}
+use Rattle.strategy_parse.specs.inside.ModuleFronts.{after_mark, header_at, DeclaredLeft, module_with}
 use Rattle.strategy_parse.specs.inside.Definitions.{DefinitionEnds}
 use Rattle.strategy_parse.specs.Gives.{GivesModule}
-use Rattle.strategy_parse.specs.inside.Sections.{IsItem, joined, SectionsLeft, SortsLeft, DeclarationsLeft, DefinitionsLeft, Left}
+use Rattle.strategy_parse.specs.inside.Sections.{IsItem, joined, declaring_one, defining, SectionsLeft, SortsLeft, DeclarationsLeft, DefinitionsLeft, Left}
 use Rattle.strategy_parse.proofs.HeaderLemmas.{after_found, header_named}
 use Rattle.strategy_parse.proofs.SortLemmas.{sort_alone}
-use Rattle.strategy_parse.proofs.DeclarationLemmas.{declaration_named}
+use Rattle.strategy_parse.proofs.DeclarationLemmas.{core_declared, declaration_named, declares}
 use Rattle.strategy_parse.proofs.FrontGives.{choice_alone, choice-front, pattern-front, strategy-only}
 use Rattle.strategy_parse.proofs.Gives.{one_written}
 use Rattle.strategy_parse.proofs.RuleLemmas.{PatternAt, ChoiceAt, Headed, headed, rule_only, where_only, body_only, ruled_only}
@@ -147,8 +148,8 @@ module _ (n : ℕ) (one : LeftOne n) where
       let less : length s.rest < length x = sort_shorter s.sort x s.rest s.reads in
       one Sorts s.rest m r (omega arith) s.left (subst (λ l. SortsLeft l r) same t.left)
 
-  declared-pair : (a b : List Constructor) (y z : List Token) → ◌≡◌ {A = DeclaredLeft} (Some (a, y)) (Some (b, z))
-      → ◌≡◌ {A = List Constructor × List Token} (a, y) (b, z)
+  declared-pair : (a b : Declared) (y z : List Token) → ◌≡◌ {A = DeclaredLeft} (Some (a, y)) (Some (b, z))
+      → ◌≡◌ {A = Declared × List Token} (a, y) (b, z)
   declared-pair a b y z e = cc
 
   declarations_one : (x : List Token) (m r : Module) → length x ≤ suc n → IsItem x → DeclarationsLeft x m
@@ -156,16 +157,17 @@ module _ (n : ℕ) (one : LeftOne n) where
   declarations_one x m r le i a b =
       let s : DeclarationStep x m = declaration_step x m a i in
       let t : DeclarationStep x r = declaration_step x r b i in
-      let both : ◌≡◌ {A = List Constructor × List Token} (declared t.declaration, t.rest)
-      (declared s.declaration, s.rest) =
-      declared-pair (declared t.declaration) (declared s.declaration) t.rest s.rest
+      let both : ◌≡◌ {A = Declared × List Token} (core_declared t.declaration, t.rest)
+      (core_declared s.declaration, s.rest) =
+      declared-pair (core_declared t.declaration) (core_declared s.declaration) t.rest s.rest
       (sym (declaration_named t.declaration x t.rest t.reads t.ends)
       ∙ declaration_named s.declaration x s.rest s.reads s.ends) in
       let less : length s.rest < length x = declaration_shorter s.declaration x s.rest s.reads in
       let same : s.after ≡ t.after = one Constructors s.rest s.after t.after (omega arith) s.left
-      (subst (λ l. DeclarationsLeft l t.after) (ap (λ (q : List Constructor × List Token). q.1) both) t.left) in
-      sym s.gives ∙ ap (joined (declared s.declaration) []) same
-      ∙ ap (λ l. joined l [] t.after) (sym (ap (λ (q : List Constructor × List Token). q.0) both)) ∙ t.gives
+      (subst (λ l. DeclarationsLeft l t.after) (ap (λ (q : Declared × List Token). q.1) both) t.left) in
+      let declared : declaring_one s.declaration ≡ declaring_one t.declaration = sym (declares s.declaration)
+      ∙ ap module_with (sym (ap (λ (q : Declared × List Token). q.0) both)) ∙ declares t.declaration in
+      sym s.gives ∙ ap (joined (declaring_one s.declaration)) same ∙ ap (λ l. joined l t.after) declared ∙ t.gives
 
   definitions_one : (x : List Token) (m r : Module) → length x ≤ suc n → IsItem x → DefinitionsLeft x m
       → DefinitionsLeft x r → m ≡ r
@@ -178,8 +180,8 @@ module _ (n : ℕ) (one : LeftOne n) where
       let less : length s.rest < length x = defined_shorter s.definition x s.rest s.reads in
       let same : s.after ≡ t.after = one Definitions s.rest s.after t.after (omega arith) s.left
       (subst (λ l. DefinitionsLeft l t.after) (second.1 ∙ sym first.1) t.left) in
-      sym s.gives ∙ ap (joined [] (core_definition s.definition ∷ [])) same
-      ∙ ap (λ l. joined [] (l ∷ []) t.after) (first.0 ∙ sym second.0) ∙ t.gives
+      sym s.gives ∙ ap (joined (defining (core_definition s.definition ∷ []))) same
+      ∙ ap (λ l. joined (defining (l ∷ [])) t.after) (first.0 ∙ sym second.0) ∙ t.gives
 
   item_one : (p : Context) (x : List Token) (m r : Module) → length x ≤ suc n → IsItem x → Left p x m
       → Left p x r → m ≡ r

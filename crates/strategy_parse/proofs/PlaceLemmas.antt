@@ -26,9 +26,9 @@ use Rattle.strategy_parse.specs.Core.{core_module}
 use Rattle.strategy_parse.specs.inside.Fronts.{Stops}
 use Rattle.strategy_parse.specs.inside.ModuleFronts.{sorts_from, sort_goes, sort_step}
 use Rattle.strategy_parse.specs.inside.ModulePlaces.{named, item, part, between, separated, sort_ended, sort_next, after_header, terms_next, after_names, first_name, after_part, next_place, open_brackets, CanEnd}
-use Rattle.strategy_parse.specs.inside.Sections.{next_context}
+use Rattle.strategy_parse.specs.inside.Sections.{next_context, nothing}
 use Rattle.strategy_parse.proofs.FinishLemmas.{some_name}
-use Rattle.strategy_parse.proofs.SectionWords.{nothing, left_nothing}
+use Rattle.strategy_parse.proofs.SectionWords.{left_nothing}
 use Rattle.strategy_parse.proofs.SortLemmas.{sorts_depth}
 use Rattle.strategy_parse.proofs.PlaceRests.{Parts, InBody, InRight, AfterHeader, AfterPart, AfterSorts, InSorts, Rest}
 

@@ -5,7 +5,6 @@ use Rattle.std.specs.Prelude.{if◌then◌else◌}
 use Rattle.std.specs.declared.option.Option.{Option}
 use Rattle.term_core.specs.Tree.{Symbol}
 use Rattle.strategy_syntax.specs.Syntax as syntax
-use Rattle.strategy_syntax.specs.Modules.{Constructor}
 use Rattle.strategy_tokens.specs.declared.token.Token.{Token}
 use Rattle.strategy_tokens.specs.declared.token.Token.TheVariants.{Ident, Wildcard, Reserved, Integer, Text, Sign as ASign, Bad}
 use Rattle.strategy_tokens.specs.declared.token.Keyword.{Keyword}
@@ -28,20 +27,21 @@ use Rattle.strategy_parse.specs.declared.modules.place.BodyPart.{BodyPart}
 use Rattle.strategy_parse.specs.declared.modules.place.BodyPart.TheVariants.{Strategy as Body, Left, Right}
 use Rattle.strategy_parse.specs.declared.modules.place.ModulePlace.{ModulePlace}
 use Rattle.strategy_parse.specs.declared.modules.place.ModulePlace.TheVariants as place
-use Rattle.strategy_parse.specs.Written.{Sort, Sorts as SortList, no_sorts, and_sort, Declaration, constant, function, Defined, definition, rule, rule_where}
+use Rattle.term_sorts.specs.Sorts.{Sort, Sorts as SortList, no_sorts, and_sort}
+use Rattle.strategy_parse.specs.Written.{Declaration, constant, function, Defined, definition, rule, rule_where}
 use Rattle.strategy_parse.specs.Grammar.{ReadsNames, ReadsMoreNames, Mark}
 use Rattle.strategy_parse.specs.GrammarModules.{ReadsSort, ReadsMoreSorts, ReadsDeclaration, ReadsDefined}
 use Rattle.strategy_parse.specs.declared.parser.state.Order.TheVariants.{Run}
-use Rattle.strategy_parse.specs.Core.{core, sort_count, core_definition, declared}
+use Rattle.strategy_parse.specs.Core.{core, core_definition}
 use Rattle.strategy_parse.specs.Gives.{GivesModule}
 use Rattle.strategy_parse.specs.inside.Fronts.{Stops}
-use Rattle.strategy_parse.specs.inside.ModuleFronts.{SortsLeft, sorts_from, sorts_at, sort_step, make_header, named_constructor, without_arrow}
+use Rattle.strategy_parse.specs.inside.ModuleFronts.{SortsLeft, sorts_from, sorts_at, sort_step, make_header}
 use Rattle.strategy_parse.specs.inside.Definitions.{DefinitionEnds}
 use Rattle.strategy_parse.specs.inside.ModulePlaces.{named, item, part, between, separated, sort_ended, sort_next, after_header, terms_next, after_names, first_name, after_part, next_place}
-use Rattle.strategy_parse.specs.inside.Sections.{next_context, IsItem, joined, Left as LeftIn}
+use Rattle.strategy_parse.specs.inside.Sections.{next_context, IsItem, joined, declaring_one, defining, Left as LeftIn}
 use Rattle.strategy_parse.proofs.FrontGives.{choice-front, front-gives, pattern-front, front-pattern}
-use Rattle.strategy_parse.proofs.SortLemmas.{sorts_counted, sort_alone, to_arrow, one_is, one_sort-is, sort_found, sorts_found, sorts_least, star_more, star_less, OneLess, sorts_reads, sorts_end, sorts_stuck, sorts_star, ends-at}
-use Rattle.strategy_parse.proofs.DeclarationLemmas.{DeclarationEnds, DeclarationFound, make_function, constant_found}
+use Rattle.strategy_parse.proofs.SortLemmas.{sort_count, sorts_counted, sort_alone, to_arrow, one_is, one_sort-is, sort_found, SortsFound, sorts_found, sorts_least, star_more, star_less, OneLess, sorts_reads, sorts_end, sorts_stuck, sorts_star, ends-at}
+use Rattle.strategy_parse.proofs.DeclarationLemmas.{DeclarationEnds, function_read}
 use Rattle.strategy_parse.proofs.SectionWords.{Named, NamedOrColon, declaration_front, sort_named, defined_named, WordStep, word_step, word_back}
 use Rattle.strategy_parse.proofs.SectionItems.{outside_item, signature_item, SortStep, sort_step as next_sort, sort_back, DeclarationStep, declaration_step, declaration_back, DefinitionStep, definition_step, definition_back}
 use Rattle.strategy_parse.proofs.TitleLemmas.{titled, untitled, title_forth, plain_to}
@@ -177,10 +177,9 @@ named_out (function (Some g) (and_sort s ss) r) f x v h ends left =
 named_out (function None (and_sort s ss) r) f x v h ends left =
     let non : Ident f ∷ x ≡ ASign Colon ∷ h.2.0 = sym h.1 ∙ h.2.1 in absurd (cc)
 
-declared_in : (x y : List Token) (cs : List Constructor) → DeclarationFound x cs y → Parts Constructors y
+declared_in : (d : Declaration) (x y : List Token) → ReadsDeclaration d x y → Parts Constructors y
     → Parts Constructors x
-declared_in x y cs found (m, l) =
-    (joined (declared found.declaration) [] m, declaration_back found.declaration x y m found.reads l)
+declared_in d x y r (m, l) = (joined (declaring_one d) m, declaration_back d x y m r l)
 
 colon_begins : (t : Token) → t ≡ ASign Colon → Steps (place.Between Constructors) t (place.Sort Argument Begins 0)
 colon_begins t e = subst (λ u. Steps (place.Between Constructors) u (place.Sort Argument Begins 0)) (sym e)
@@ -193,9 +192,10 @@ colon_begins t e = subst (λ u. Steps (place.Between Constructors) u (place.Sort
       back : (x : List Token) → InSorts Argument Begins 0 x → Parts Constructors (ASign Colon ∷ x)
       back x (c, y, e, (z, arrow, (k, w, h, (one, left)))) =
           let own = sort_found z w (one_sort-is (sorts_at z) k w h one) in
-          declared_in (ASign Colon ∷ x) w (named_constructor None c)
-          (make_function None (ASign Colon ∷ x) (ASign Colon ∷ x) x refl refl c y z w (named_constructor None c)
-          (sorts_found x c y e) arrow own refl) left
+          let all = sorts_found x c y e in
+          let s : SortsFound x c all.0 y = all.1 in
+          declared_in (function None (and_sort s.first s.more) own.0) (ASign Colon ∷ x) w
+          (function_read None (ASign Colon ∷ x) (ASign Colon ∷ x) x refl refl c all.0 y z w s arrow own.0 own.1) left
 
 constructor_begins : (f : Symbol) → Steps (place.Between Constructors) (Ident f) place.Declared
 constructor_begins f = record { forth = forth; back = back } where
@@ -207,13 +207,13 @@ constructor_begins f = record { forth = forth; back = back } where
   back : (x : List Token) → AfterMark Colon (InSorts Constant Begins 0) x → Parts Constructors (Ident f ∷ x)
   back x (b, colon, (c, y, e, (inl (z, arrow, (k, w, h, (one, left)))))) =
       let own = sort_found z w (one_sort-is (sorts_at z) k w h one) in
-      declared_in (Ident f ∷ x) w (named_constructor (Some f) c)
-      (make_function (Some f) (Ident f ∷ x) x b refl colon c y z w (named_constructor (Some f) c) (sorts_found b c y e)
-      arrow own refl) left
+      let all = sorts_found b c y e in
+      let s : SortsFound b c all.0 y = all.1 in
+      declared_in (function (Some f) (and_sort s.first s.more) own.0) (Ident f ∷ x) w
+      (function_read (Some f) (Ident f ∷ x) x b refl colon c all.0 y z w s arrow own.0 own.1) left
   back x (b, colon, (c, y, e, (inr (one, left)))) =
-      declared_in (Ident f ∷ x) y (named_constructor (Some f) 0)
-      (constant_found (Some f) (Ident f ∷ x) x b refl colon c y (named_constructor (Some f) 0) y (sorts_found b c y e)
-      (ap (λ n. without_arrow (Some f) n y) one)) left
+      let own = sort_found b y (one_sort-is (sorts_at b) c y e one) in
+      declared_in (constant f own.0) (Ident f ∷ x) y (x, refl, (b, colon, own.1)) left
 
 declaration_only : (t : Token) → (t ≡ ASign Colon → ⊥) → (x : List Token) → NamedOrColon (t ∷ x) → IsIdent t
 declaration_only t non x (inl n) = (n.name, heads t (Ident n.name) x n.rest n.is)
@@ -274,7 +274,7 @@ defined_out (rule_where h p q a) f x v r ends left =
     ))
 
 definition_in : (d : Defined) (x y : List Token) → ReadsDefined d x y → Parts Definitions y → Parts Definitions x
-definition_in d x y r (m, l) = (joined [] (core_definition d ∷ []) m, definition_back d x y m r l)
+definition_in d x y r (m, l) = (joined (defining (core_definition d ∷ [])) m, definition_back d x y m r l)
 
 header_begins : (f : Symbol) → Steps (place.Between Definitions) (Ident f) place.Header
 header_begins f = record { forth = forth; back = back } where

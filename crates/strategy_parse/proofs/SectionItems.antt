@@ -1,18 +1,18 @@
 -- What a module gives after a sort, a declaration or a definition, and what may come after these.
 use Rattle.std.proofs.Common.{◌≡◌, false, refl, sym, ap, ◌∙◌, subst, inl, inr, List, [], ◌∷◌}
 use Rattle.std.specs.Prelude.{◌⊎◌, map}
-use Rattle.std.specs.List.{flat_map}
+use Rattle.term_sorts.specs.Sorts.{Sort}
 use Rattle.strategy_syntax.specs.Modules.{Module}
 use Rattle.strategy_tokens.specs.declared.token.Token.{Token}
 use Rattle.strategy_tokens.specs.declared.token.Token.TheVariants.{Reserved}
 use Rattle.strategy_tokens.specs.declared.token.Keyword.{Keyword}
 use Rattle.strategy_tokens.specs.declared.token.Keyword.TheVariants.{Signature as KSignature, Sorts as KSorts, Constructors as KConstructors, Rules, Strategies, Where}
-use Rattle.strategy_parse.specs.Written.{Sort, Declaration, Defined, SignaturePart, sorts, constructors, Section, signature, definitions}
+use Rattle.strategy_parse.specs.Written.{Declaration, Defined, SignaturePart, sorts, constructors, Section, signature, definitions}
 use Rattle.strategy_parse.specs.GrammarModules.{ReadsSort, ReadsDeclaration, ReadsDefined, ReadsSignaturePart, ReadsAll}
-use Rattle.strategy_parse.specs.Core.{declared, core_definition}
+use Rattle.strategy_parse.specs.Core.{core_definition}
 use Rattle.strategy_tokens.specs.Marks.{is_word}
 use Rattle.strategy_parse.specs.inside.Definitions.{DefinitionEnds}
-use Rattle.strategy_parse.specs.inside.Sections.{IsItem, joined, ReadsSections, SectionsLeft, SignatureLeft, SortsLeft, DeclarationsLeft, DefinitionsLeft}
+use Rattle.strategy_parse.specs.inside.Sections.{IsItem, joined, declaring, declaring_one, defining, ReadsSections, SectionsLeft, SignatureLeft, SortsLeft, DeclarationsLeft, DefinitionsLeft}
 use Rattle.strategy_parse.proofs.DeclarationLemmas.{DeclarationEnds}
 use Rattle.strategy_parse.proofs.SectionWords.{joined-joined, Named, NamedOrColon, defined_named, sort_named, declaration_front, item_is}
 
@@ -95,17 +95,17 @@ pub record DefinitionStep (x : List Token) (m : Module) : Type 0 where
   pub ends : DefinitionEnds rest
   pub after : Module
   pub left : DefinitionsLeft rest after
-  pub gives : joined [] (core_definition definition ∷ []) after ≡ m
+  pub gives : joined (defining (core_definition definition ∷ [])) after ≡ m
 
 definitions_items : (ds : List Defined) (x y : List Token) (m : Module) → ReadsAll ReadsDefined ds x y → (k : Module)
-    → SectionsLeft y k → joined [] (map core_definition ds) k ≡ m → IsItem x → DefinitionStep x m
+    → SectionsLeft y k → joined (defining (map core_definition ds)) k ≡ m → IsItem x → DefinitionStep x m
 definitions_items [] x y m r k l e i = absurd (outside_item y k l (subst IsItem (sym r) i))
 definitions_items (d ∷ ds) x y m r k l e i = record {
   definition = d;
   rest = r.0;
   reads = r.1;
   ends = definitions_end_at ds r.0 y k r.2 l;
-  after = joined [] (map core_definition ds) k;
+  after = joined (defining (map core_definition ds)) k;
   left = record { definitions = ds; rest = y; reads = r.2; after = k; left = l; gives = refl };
   gives = e;
 }
@@ -114,14 +114,14 @@ pub definition_step : (x : List Token) (m : Module) → DefinitionsLeft x m → 
 definition_step x m l i = definitions_items l.definitions x l.rest m l.reads l.after l.left l.gives i
 
 pub definition_back : (d : Defined) (x y : List Token) (m : Module) → ReadsDefined d x y → DefinitionsLeft y m
-    → DefinitionsLeft x (joined [] (core_definition d ∷ []) m)
+    → DefinitionsLeft x (joined (defining (core_definition d ∷ [])) m)
 definition_back d x y m r l = record {
   definitions = d ∷ l.definitions;
   rest = l.rest;
   reads = (y, r, l.reads);
   after = l.after;
   left = l.left;
-  gives = ap (joined [] (core_definition d ∷ [])) l.gives;
+  gives = ap (joined (defining (core_definition d ∷ []))) l.gives;
 }
 
 pub record DeclarationStep (x : List Token) (m : Module) : Type 0 where
@@ -131,34 +131,34 @@ pub record DeclarationStep (x : List Token) (m : Module) : Type 0 where
   pub ends : DeclarationEnds rest
   pub after : Module
   pub left : DeclarationsLeft rest after
-  pub gives : joined (declared declaration) [] after ≡ m
+  pub gives : joined (declaring_one declaration) after ≡ m
 
 declarations_items : (ds : List Declaration) (x y : List Token) (m : Module) → ReadsAll ReadsDeclaration ds x y
-    → (k : Module) → SignatureLeft y k → joined (flat_map declared ds) [] k ≡ m → IsItem x → DeclarationStep x m
+    → (k : Module) → SignatureLeft y k → joined (declaring ds) k ≡ m → IsItem x → DeclarationStep x m
 declarations_items [] x y m r k l e i = absurd (signature_item y k l (subst IsItem (sym r) i))
 declarations_items (d ∷ ds) x y m r k l e i = record {
   declaration = d;
   rest = r.0;
   reads = r.1;
   ends = declarations_apart ds r.0 y k r.2 l;
-  after = joined (flat_map declared ds) [] k;
+  after = joined (declaring ds) k;
   left = record { declarations = ds; rest = y; reads = r.2; after = k; left = l; gives = refl };
-  gives = joined-joined (declared d) (flat_map declared ds) [] [] k ∙ e;
+  gives = joined-joined (declaring_one d) (declaring ds) k ∙ e;
 }
 
 pub declaration_step : (x : List Token) (m : Module) → DeclarationsLeft x m → IsItem x → DeclarationStep x m
 declaration_step x m l i = declarations_items l.declarations x l.rest m l.reads l.after l.left l.gives i
 
 pub declaration_back : (d : Declaration) (x y : List Token) (m : Module) → ReadsDeclaration d x y → DeclarationsLeft y m
-    → DeclarationsLeft x (joined (declared d) [] m)
+    → DeclarationsLeft x (joined (declaring_one d) m)
 declaration_back d x y m r l = record {
   declarations = d ∷ l.declarations;
   rest = l.rest;
   reads = (y, r, l.reads);
   after = l.after;
   left = l.left;
-  gives = sym (joined-joined (declared d) (flat_map declared l.declarations) [] [] l.after)
-      ∙ ap (joined (declared d) []) l.gives;
+  gives = sym (joined-joined (declaring_one d) (declaring l.declarations) l.after)
+      ∙ ap (joined (declaring_one d)) l.gives;
 }
 
 pub record SortStep (x : List Token) (m : Module) : Type 0 where

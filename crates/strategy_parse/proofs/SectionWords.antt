@@ -1,10 +1,10 @@
 -- What a module gives after a word that begins a part of it, and at the end of its text.
-use Rattle.std.proofs.Common.{◌≡◌, refl, sym, ap, ◌∙◌, subst, inl, inr, List, [], ◌∷◌, ◌++◌, Some, None, append_assoc}
+use Rattle.std.proofs.Common.{◌≡◌, refl, sym, ap, ◌∙◌, subst, inl, inr, List, [], ◌∷◌, Some, None, append_assoc}
 use Rattle.std.specs.Prelude.{◌⊎◌, map}
 use Rattle.std.specs.declared.option.Option.{Option}
-use Rattle.std.specs.List.{flat_map}
 use Rattle.term_core.specs.Tree.{Symbol}
-use Rattle.strategy_syntax.specs.Modules.{Module, Constructor, Definition}
+use Rattle.term_sorts.specs.Sorts.{Sort, sort, no_sorts, and_sort}
+use Rattle.strategy_syntax.specs.Modules.{Module}
 use Rattle.strategy_tokens.specs.declared.token.Token.{Token}
 use Rattle.strategy_tokens.specs.declared.token.Token.TheVariants.{Ident, Reserved, Sign as ASign}
 use Rattle.strategy_tokens.specs.declared.token.Keyword.{Keyword}
@@ -12,20 +12,17 @@ use Rattle.strategy_tokens.specs.declared.token.Keyword.TheVariants.{Signature a
 use Rattle.strategy_tokens.specs.declared.token.Sign.TheVariants.{Colon}
 use Rattle.strategy_parse.specs.declared.modules.sections.Context.{Context}
 use Rattle.strategy_parse.specs.declared.modules.sections.Context.TheVariants.{Outside, Signature as InSignature, Sorts, Constructors, Definitions}
-use Rattle.strategy_parse.specs.Written.{Sort, sort, no_sorts, and_sort, Declaration, constant, function, Defined, definition, rule, rule_where, SignaturePart, sorts, constructors, Section, signature, definitions}
+use Rattle.strategy_parse.specs.Written.{Declaration, constant, function, Defined, definition, rule, rule_where, SignaturePart, sorts, constructors, Section, signature, definitions}
 use Rattle.strategy_parse.specs.GrammarModules.{ReadsSort, ReadsDeclaration, ReadsDefined, ReadsSignaturePart, ReadsAll}
-use Rattle.strategy_parse.specs.Core.{declared, declared_in_part, core_module, core_definition}
-use Rattle.strategy_parse.specs.inside.Sections.{in_signature, next_context, IsItem, joined, ReadsSections, SectionsLeft, SignatureLeft, SortsLeft, DeclarationsLeft, DefinitionsLeft, Left}
+use Rattle.strategy_parse.specs.Core.{core_module, core_definition}
+use Rattle.strategy_parse.specs.inside.Sections.{in_signature, next_context, IsItem, nothing, joined, declaring, signing, defining, ReadsSections, SectionsLeft, SignatureLeft, SortsLeft, DeclarationsLeft, DefinitionsLeft, Left}
 
--- an empty module
-unfoldable pub nothing : Module
-nothing = record { constructors = []; definitions = [] }
-
-pub joined-joined : (ys bs : List Constructor) (cs ds : List Definition) (m : Module)
-    → joined ys cs (joined bs ds m) ≡ joined (ys ++ bs) (cs ++ ds) m
-joined-joined ys bs cs ds m = λ i. record {
-  constructors = sym (append_assoc ys bs m.constructors) i;
-  definitions = sym (append_assoc cs ds m.definitions) i;
+pub joined-joined : (a b m : Module) → joined a (joined b m) ≡ joined (joined a b) m
+joined-joined a b m = λ i. record {
+  constructors = sym (append_assoc a.constructors b.constructors m.constructors) i;
+  declarations = sym (append_assoc a.declarations b.declarations m.declarations) i;
+  injections = sym (append_assoc a.injections b.injections m.injections) i;
+  definitions = sym (append_assoc a.definitions b.definitions m.definitions) i;
 }
 
 -- ---- the beginnings of items
@@ -146,7 +143,7 @@ IsInSignature p = (q : Context) → in_signature p q ≡ Some q
 
 signature_step : (p : Context) → IsInSignature p → (ps : List SignaturePart) (w : Keyword) (x y : List Token)
     (m : Module) → ReadsAll ReadsSignaturePart ps (Reserved w ∷ x) y → (k : Module) → SectionsLeft y k
-    → joined (flat_map declared_in_part ps) [] k ≡ m → WordStep p w x m
+    → joined (signing ps) k ≡ m → WordStep p w x m
 signature_step p h [] w x y m r k l e = sections_step p w x y m r (subst (SectionsLeft y) e l)
 signature_step p h (sorts ss ∷ ps) w x y m r k l e = record {
   context = Sorts;
@@ -167,9 +164,9 @@ signature_step p h (constructors ds ∷ ps) w x y m r k l e = record {
         declarations = ds;
         rest = r.0;
         reads = r.1.2;
-        after = joined (flat_map declared_in_part ps) [] k;
+        after = joined (signing ps) k;
         left = record { parts = ps; rest = y; reads = r.2; after = k; left = l; gives = refl };
-        gives = joined-joined (flat_map declared ds) (flat_map declared_in_part ps) [] [] k ∙ e;
+        gives = joined-joined (declaring ds) (signing ps) k ∙ e;
       });
 }
 
@@ -183,9 +180,8 @@ sorts_step : (ss : List Sort) (w : Keyword) (x y : List Token) (m : Module) → 
 sorts_step [] w x y m r l = in_signature_step Sorts (λ q. refl) w x y m r l
 sorts_step (s ∷ ss) w x y m r l = absurd (no_name (Reserved w ∷ x) x w refl (sort_named s (Reserved w ∷ x) r.0 r.1))
 
-declarations_step : (ds : List Declaration) (w : Keyword) (x y : List Token) (m : Module)
-    → ReadsAll ReadsDeclaration ds (Reserved w ∷ x) y → (k : Module) → SignatureLeft y k
-    → joined (flat_map declared ds) [] k ≡ m → WordStep Constructors w x m
+declarations_step : (ds : List Declaration) (w : Keyword) (x y : List Token) (m : Module) → ReadsAll ReadsDeclaration ds
+    (Reserved w ∷ x) y → (k : Module) → SignatureLeft y k → joined (declaring ds) k ≡ m → WordStep Constructors w x m
 declarations_step [] w x y m r k l e =
     in_signature_step Constructors (λ q. refl) w x y m r (subst (SignatureLeft y) e l)
 declarations_step (d ∷ ds) w x y m r k l e =
@@ -193,7 +189,7 @@ declarations_step (d ∷ ds) w x y m r k l e =
 
 definitions_step : (ds : List Defined) (w : Keyword) (x y : List Token) (m : Module)
     → ReadsAll ReadsDefined ds (Reserved w ∷ x) y → (k : Module) → SectionsLeft y k
-    → joined [] (map core_definition ds) k ≡ m → WordStep Definitions w x m
+    → joined (defining (map core_definition ds)) k ≡ m → WordStep Definitions w x m
 definitions_step [] w x y m r k l e = sections_step Definitions w x y m r (subst (SectionsLeft y) e l)
 definitions_step (d ∷ ds) w x y m r k l e =
     absurd (no_name (Reserved w ∷ x) x w refl (defined_named d (Reserved w ∷ x) r.0 r.1))
@@ -210,21 +206,21 @@ outside_signature : (x : List Token) (m : Module) → SignatureLeft x m → Sect
 outside_signature x m l = record {
   sections = signature l.parts ∷ l.left.sections;
   reads = (l.rest, (x, refl, l.reads), l.left.reads);
-  gives = ap (joined (flat_map declared_in_part l.parts) []) l.left.gives ∙ l.gives;
+  gives = ap (joined (signing l.parts)) l.left.gives ∙ l.gives;
 }
 
 outside_rules : (x : List Token) (m : Module) → DefinitionsLeft x m → SectionsLeft (Reserved Rules ∷ x) m
 outside_rules x m l = record {
   sections = definitions l.definitions ∷ l.left.sections;
   reads = (l.rest, (x, inl refl, l.reads), l.left.reads);
-  gives = ap (joined [] (map core_definition l.definitions)) l.left.gives ∙ l.gives;
+  gives = ap (joined (defining (map core_definition l.definitions))) l.left.gives ∙ l.gives;
 }
 
 outside_strategies : (x : List Token) (m : Module) → DefinitionsLeft x m → SectionsLeft (Reserved Strategies ∷ x) m
 outside_strategies x m l = record {
   sections = definitions l.definitions ∷ l.left.sections;
   reads = (l.rest, (x, inr refl, l.reads), l.left.reads);
-  gives = ap (joined [] (map core_definition l.definitions)) l.left.gives ∙ l.gives;
+  gives = ap (joined (defining (map core_definition l.definitions))) l.left.gives ∙ l.gives;
 }
 
 signature_of : (x : List Token) (m : Module) → SectionsLeft x m → SignatureLeft x m
@@ -257,8 +253,8 @@ signature_constructors x m l = record {
   after = l.left.after;
   left = l.left.left;
   gives =
-      sym (joined-joined (flat_map declared l.declarations) (flat_map declared_in_part l.left.parts) [] [] l.left.after)
-      ∙ ap (joined (flat_map declared l.declarations) []) l.left.gives ∙ l.gives;
+      sym (joined-joined (declaring l.declarations) (signing l.left.parts) l.left.after)
+      ∙ ap (joined (declaring l.declarations)) l.left.gives ∙ l.gives;
 }
 
 from_signature : (p q : Context) (x : List Token) (m : Module) → in_signature p q ≡ Some q → SignatureLeft x m
@@ -301,7 +297,6 @@ word_back p w q x m e l = absurd (cc)
 -- ---- the end of the text
 
 sections_end : (ss : List Section) (m : Module) → ReadsSections ss [] → core_module ss ≡ m → nothing ≡ m
-unfolding nothing
 sections_end [] m r e = e
 sections_end (signature ps ∷ ss) m r e = let no : ◌≡◌ {A = List Token} [] (Reserved KSignature ∷ r.1.0) = r.1.1 in
     absurd (cc)
@@ -312,7 +307,7 @@ sections_done : (x : List Token) (m : Module) → x ≡ [] → SectionsLeft x m 
 sections_done x m e l = sections_end l.sections m (subst (λ z. ReadsSections l.sections z) e l.reads) l.gives
 
 signature_end : (ps : List SignaturePart) (y : List Token) (m : Module) → ReadsAll ReadsSignaturePart ps [] y
-    → (k : Module) → SectionsLeft y k → joined (flat_map declared_in_part ps) [] k ≡ m → nothing ≡ m
+    → (k : Module) → SectionsLeft y k → joined (signing ps) k ≡ m → nothing ≡ m
 signature_end [] y m r k l e = sections_done y m r (subst (SectionsLeft y) e l)
 signature_end (sorts ss ∷ ps) y m r k l e = let no : ◌≡◌ {A = List Token} [] (Reserved KSorts ∷ r.1.0) = r.1.1 in
     absurd (cc)
@@ -329,12 +324,12 @@ sorts_end [] y m r l = signature_done y m r l
 sorts_end (s ∷ ss) y m r l = absurd (no_end [] refl (sort_named s [] r.0 r.1))
 
 declarations_end : (ds : List Declaration) (y : List Token) (m : Module) → ReadsAll ReadsDeclaration ds [] y
-    → (k : Module) → SignatureLeft y k → joined (flat_map declared ds) [] k ≡ m → nothing ≡ m
+    → (k : Module) → SignatureLeft y k → joined (declaring ds) k ≡ m → nothing ≡ m
 declarations_end [] y m r k l e = signature_done y m r (subst (SignatureLeft y) e l)
 declarations_end (d ∷ ds) y m r k l e = absurd (no_end_or_colon [] refl (declaration_front d [] r.0 r.1))
 
 definitions_end : (ds : List Defined) (y : List Token) (m : Module) → ReadsAll ReadsDefined ds [] y → (k : Module)
-    → SectionsLeft y k → joined [] (map core_definition ds) k ≡ m → nothing ≡ m
+    → SectionsLeft y k → joined (defining (map core_definition ds)) k ≡ m → nothing ≡ m
 definitions_end [] y m r k l e = sections_done y m r (subst (SectionsLeft y) e l)
 definitions_end (d ∷ ds) y m r k l e = absurd (no_end [] refl (defined_named d [] r.0 r.1))
 
@@ -346,6 +341,4 @@ left_end Constructors m l = declarations_end l.declarations l.rest m l.reads l.a
 left_end Definitions m l = definitions_end l.definitions l.rest m l.reads l.after l.left l.gives
 
 pub left_nothing : (p : Context) → Left p [] nothing
-unfolding nothing
-left_nothing p = from_outside p [] (record { constructors = []; definitions = [] })
-    (record { sections = []; reads = refl; gives = refl })
+left_nothing p = from_outside p [] nothing (record { sections = []; reads = refl; gives = refl })

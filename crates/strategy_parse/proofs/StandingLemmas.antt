@@ -3,35 +3,43 @@ use Rattle.std.proofs.Common.{◌≡◌, refl, sym, ap, ◌∙◌, List, [], ◌
 use Rattle.strategy_syntax.specs.Modules as syntax
 use Rattle.strategy_tokens.specs.declared.token.Token.{Token}
 use Rattle.strategy_parse.specs.Gives.{GivesDeclaration}
-use Rattle.strategy_parse.specs.inside.ModuleFronts.{DeclaredLeft, declaration_at}
-use Rattle.strategy_parse.proofs.DeclarationLemmas.{DeclarationEnds, DeclarationFound, declaration_named, declaration_found}
+use Rattle.strategy_parse.specs.declared.modules.declarations.Declared.{Declared}
+use Rattle.strategy_parse.specs.inside.ModuleFronts.{DeclaredLeft, declaration_at, module_with}
+use Rattle.strategy_parse.proofs.DeclarationLemmas.{DeclarationEnds, DeclarationFound, core_declared, declares, declaration_named, declaration_found}
 
 alone : DeclarationEnds []
 alone = record { round = refl; star = refl; arrow = refl }
 
-abbrev left_after : List Token → List syntax.Constructor → DeclaredLeft
-left_after y cs = Some (cs, y)
+abbrev left_after : List Token → Declared → DeclaredLeft
+left_after y d = Some (d, y)
 
-given : (x : List Token) (c : syntax.Constructor) → GivesDeclaration x c → declaration_at x ≡ left_after [] (c ∷ [])
-given x c g = declaration_named g.0 x [] g.1 alone ∙ ap (left_after []) g.2
+abbrev constructors_of : Declared → List syntax.Constructor
+constructors_of d = (module_with d).constructors
 
-pub declared_alone : (x y : List Token) (cs : List syntax.Constructor) (c : syntax.Constructor)
-    → declaration_at x ≡ left_after y cs → cs ≡ c ∷ [] → y ≡ [] → GivesDeclaration x c
-declared_alone x y cs c e is end =
-    let f : DeclarationFound x (c ∷ []) [] =
-    declaration_found x (c ∷ []) [] (e ∙ ap (left_after y) is ∙ ap (λ l. left_after l (c ∷ [])) end) in
-    (f.declaration, f.reads, f.is)
+given : (x : List Token) (c : syntax.Constructor) (g : GivesDeclaration x c)
+    → declaration_at x ≡ left_after [] (core_declared g.0)
+given x c g = declaration_named g.0 x [] g.1 alone
 
-pub alone_declared : (x y : List Token) (cs : List syntax.Constructor) (c : syntax.Constructor)
-    → declaration_at x ≡ left_after y cs → GivesDeclaration x c → (cs ≡ c ∷ []) × (y ≡ [])
-alone_declared x y cs c e g =
-    let same : left_after y cs ≡ left_after [] (c ∷ []) = sym e ∙ given x c g in
-    let pair : ◌≡◌ {A = List syntax.Constructor × List Token} (cs, y) (c ∷ [], []) = cc in (
-      ap (λ (p : List syntax.Constructor × List Token). p.0) pair,
-      ap (λ (p : List syntax.Constructor × List Token). p.1) pair,
+pub declared_alone : (x y : List Token) (d : Declared) (c : syntax.Constructor) → declaration_at x ≡ left_after y d
+    → constructors_of d ≡ c ∷ [] → y ≡ [] → GivesDeclaration x c
+declared_alone x y d c e is end =
+    let f : DeclarationFound x d [] = declaration_found x d [] (e ∙ ap (λ l. left_after l d) end) in (
+      f.declaration,
+      f.reads,
+      ap (λ (m : syntax.Module). m.constructors) (sym (declares f.declaration)) ∙ ap constructors_of f.is ∙ is,
+    )
+
+pub alone_declared : (x y : List Token) (d : Declared) (c : syntax.Constructor) → declaration_at x ≡ left_after y d
+    → GivesDeclaration x c → (constructors_of d ≡ c ∷ []) × (y ≡ [])
+alone_declared x y d c e g =
+    let same : left_after y d ≡ left_after [] (core_declared g.0) = sym e ∙ given x c g in
+    let pair : ◌≡◌ {A = Declared × List Token} (d, y) (core_declared g.0, []) = cc in (
+      ap (λ (p : Declared × List Token). constructors_of p.0) pair
+          ∙ ap (λ (m : syntax.Module). m.constructors) (declares g.0) ∙ g.2,
+      ap (λ (p : Declared × List Token). p.1) pair,
     )
 
 pub nothing_declared : (x : List Token) (c : syntax.Constructor) → declaration_at x ≡ None → GivesDeclaration x c → ⊥
 nothing_declared x c e g =
-    let same : left_after [] (c ∷ []) ≡ None = sym (given x c g) ∙ e in
+    let same : left_after [] (core_declared g.0) ≡ None = sym (given x c g) ∙ e in
     absurd (cc)

@@ -1,7 +1,9 @@
 -- The translation of a text's syntax into core forms.
-use Rattle.std.specs.Prelude.{ℕ, suc, List, [], ◌∷◌, map, Some, None}
+use Rattle.std.specs.Prelude.{List, [], ◌∷◌, map, length, Some, None}
 use Rattle.std.specs.List.{flat_map}
 use Rattle.term_core.specs.Tree.{Symbol, same_name, list, tuple}
+use Rattle.term_sorts.specs.Sorts as term_sorts
+use Rattle.term_sorts.specs.Sorts.{Sort, sort, Sorts, no_sorts, and_sort, sort_list, plain, tuple_sort, Injection}
 use Rattle.strategy_syntax.specs.Syntax.{Pattern, Patterns, no_patterns, and_pattern, Strategy, id, fail, matches, builds, seq, guard, test, scope, uses, congruence, tail_congruence, all, one, some, child as nth_child, rec, prim, Strategies, no_strategies, and_strategy}
 use Rattle.strategy_syntax.specs.Modules as syntax
 use Rattle.strategy_syntax.specs.Lists.{first_ones}
@@ -11,7 +13,7 @@ use Rattle.strategy_parse.specs.declared.parser.state.Order.{Order}
 use Rattle.strategy_parse.specs.declared.parser.state.Order.TheVariants.{Run, Written}
 use Rattle.strategy_parse.specs.declared.parser.state.Operator.{Operator}
 use Rattle.strategy_parse.specs.declared.parser.state.Operator.TheVariants.{All, One, Some as SomeChild, Not, Where, Test}
-use Rattle.strategy_parse.specs.Written.{Choice, sequence, left_choice, guarded_choice, Seq, last, before, Arrow, arrow, Prefix, question, exclamation, application, identity, failure, operator, if_then, if_then_else, recursion, primitive, local, closure, closure_where, round, square, square_with_tail, name, call, call_with_terms, child, Choices, no_choices, and_choice, Sorts, no_sorts, and_sort, Declaration, constant, function, Header, Defined, definition, rule, rule_where, SignaturePart, sorts, constructors, Section, signature, definitions}
+use Rattle.strategy_parse.specs.Written.{Choice, sequence, left_choice, guarded_choice, Seq, last, before, Arrow, arrow, Prefix, question, exclamation, application, identity, failure, operator, if_then, if_then_else, recursion, primitive, local, closure, closure_where, round, square, square_with_tail, name, call, call_with_terms, child, Choices, no_choices, and_choice, Declaration, constant, function, Header, Defined, definition, rule, rule_where, SignaturePart, sorts, constructors, Section, signature, definitions}
 
 -- ---- core forms
 
@@ -92,15 +94,37 @@ module _ (o : Order) where
 
 -- ---- modules
 
-abbrev pub sort_count : Sorts → ℕ
-sort_count no_sorts = 0
-sort_count (and_sort s ss) = suc (sort_count ss)
+-- `string` and `List` are other words for `str` and `list`
+abbrev mutual
+  pub core_sort : Sort → Sort
+  core_sort (sort f ss) = sort (plain f) (core_sorts ss)
 
--- a declaration without the name of a constructor declares nothing
-abbrev pub declared : Declaration → List syntax.Constructor
-declared (constant f s) = record { name = f; arity = 0 } ∷ []
+  pub core_sorts : Sorts → Sorts
+  core_sorts no_sorts = no_sorts
+  core_sorts (and_sort s ss) = and_sort (core_sort s) (core_sorts ss)
+
+-- the constructor that a declaration declares, if it has a name
+abbrev pub declared : Declaration → List term_sorts.Declaration
+declared (constant f s) = record { name = f; arguments = []; result = core_sort s } ∷ []
 declared (function None ss r) = []
-declared (function (Some f) ss r) = record { name = f; arity = sort_count ss } ∷ []
+declared (function (Some f) ss r) =
+    record { name = f; arguments = sort_list (core_sorts ss); result = core_sort r } ∷ []
+
+-- the same without sorts
+abbrev pub constructed : Declaration → List syntax.Constructor
+constructed d = map (λ c. record { name = c.name; arity = length c.arguments }) (declared d)
+
+-- several arguments are injected as the tuple of them
+abbrev pub injected_sort : List Sort → Sort
+injected_sort (s ∷ []) = s
+injected_sort ss = tuple_sort ss
+
+-- the injection that a declaration without a name declares
+abbrev pub injected : Declaration → List Injection
+injected (constant f s) = []
+injected (function None ss r) =
+    record { from = injected_sort (sort_list (core_sorts ss)); to = core_sort r } ∷ []
+injected (function (Some f) ss r) = []
 
 abbrev pub defined : Header → Strategy → syntax.Definition
 defined h s = record {
@@ -122,13 +146,15 @@ core_definition (definition h a) = defined h (core Run a)
 core_definition (rule h p q) = defined h (closed h.terms (λ o. rewrite p q))
 core_definition (rule_where h p q a) = defined h (closed h.terms (λ o. rewrite_where o p q (core o a)))
 
-abbrev pub declared_in_part : SignaturePart → List syntax.Constructor
-declared_in_part (sorts ss) = []
-declared_in_part (constructors ds) = flat_map declared ds
+-- what all declarations of a section declare, if one declares this
+module _ {X : Type 0} (one : Declaration → List X) where
+  abbrev pub in_part : SignaturePart → List X
+  in_part (sorts ss) = []
+  in_part (constructors ds) = flat_map one ds
 
-abbrev pub declared_in : Section → List syntax.Constructor
-declared_in (signature parts) = flat_map declared_in_part parts
-declared_in (definitions ds) = []
+  abbrev pub in_section : Section → List X
+  in_section (signature parts) = flat_map in_part parts
+  in_section (definitions ds) = []
 
 abbrev pub defined_in : Section → List syntax.Definition
 defined_in (signature parts) = []
@@ -139,6 +165,8 @@ defined_in (definitions ds) = map core_definition ds
 -- together.
 abbrev pub core_module : List Section → syntax.Module
 core_module ss = record {
-  constructors = flat_map declared_in ss;
+  constructors = flat_map (in_section constructed) ss;
+  declarations = flat_map (in_section declared) ss;
+  injections = flat_map (in_section injected) ss;
   definitions = flat_map defined_in ss;
 }

@@ -7,7 +7,7 @@ use Rattle.strategy_parse.specs.declared.parser.state.Order.TheVariants.{Run}
 use Rattle.strategy_parse.specs.Written.{Choice, Declaration, Defined, Section}
 use Rattle.strategy_parse.specs.Grammar.{ReadsChoice, ReadsPattern}
 use Rattle.strategy_parse.specs.GrammarModules.{ReadsDeclaration, ReadsDefined, ReadsModule}
-use Rattle.strategy_parse.specs.Core.{core, core_definition, core_module, declared}
+use Rattle.strategy_parse.specs.Core.{core, core_definition, core_module, constructed}
 
 -- the tokens are a choice whose core form is the strategy
 abbrev pub GivesStrategy : List Token → Strategy → Type 0
@@ -29,4 +29,4 @@ GivesDefinition ts d = (w : Defined) × ReadsDefined w ts [] × (core_definition
 
 -- the tokens are a declaration of this constructor
 abbrev pub GivesDeclaration : List Token → syntax.Constructor → Type 0
-GivesDeclaration ts c = (w : Declaration) × ReadsDeclaration w ts [] × (declared w ≡ c ∷ [])
+GivesDeclaration ts c = (w : Declaration) × ReadsDeclaration w ts [] × (constructed w ≡ c ∷ [])

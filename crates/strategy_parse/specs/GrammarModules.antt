@@ -14,7 +14,8 @@ use Rattle.strategy_tokens.specs.declared.token.Token.TheVariants.{Ident}
 use Rattle.strategy_tokens.specs.declared.token.Keyword.TheVariants.{Module, Signature as KSignature, Sorts as KSorts, Constructors, Rules, Strategies, Where}
 use Rattle.strategy_tokens.specs.declared.token.Sign.{Sign}
 use Rattle.strategy_tokens.specs.declared.token.Sign.TheVariants.{OpenRound, CloseRound, Comma, Colon, Bar, Equals, Arrow as RightArrow, Star}
-use Rattle.strategy_parse.specs.Written.{Sort, sort, Sorts, no_sorts, and_sort, Declaration, constant, function, Header, Defined, definition, rule, rule_where, SignaturePart, sorts, constructors, Section, signature, definitions}
+use Rattle.term_sorts.specs.Sorts.{Sort, sort, Sorts, no_sorts, and_sort}
+use Rattle.strategy_parse.specs.Written.{Declaration, constant, function, Header, Defined, definition, rule, rule_where, SignaturePart, sorts, constructors, Section, signature, definitions}
 use Rattle.aterm_text.specs.Grammar.{◌▸◌}
 use Rattle.strategy_parse.specs.Grammar.{Reading, Next, Word, Mark, ReadsPattern, ReadsNames, ReadsChoice}
 

@@ -1,8 +1,9 @@
 -- The syntax of strategy and module texts, production by production of the grammar, before it is
--- translated into core forms. Patterns need no translation.
+-- translated into core forms. Patterns need no translation, and sorts only that of two names.
 use Rattle.std.specs.Prelude.{ℕ, List}
 use Rattle.std.specs.declared.option.Option.{Option}
 use Rattle.term_core.specs.Tree.{Symbol}
+use Rattle.term_sorts.specs.Sorts.{Sort, Sorts}
 use Rattle.strategy_syntax.specs.Syntax.{Pattern, Patterns}
 use Rattle.strategy_parse.specs.declared.parser.state.Operator.{Operator}
 
@@ -49,15 +50,6 @@ mutual
     and_choice : Choice → Choices → Choices
 
 -- ---- modules
-
-mutual
-  -- `ident`, or `ident ( sort, .. )`
-  pub data Sort : Type 0 where
-    sort : Symbol → Sorts → Sort
-
-  pub data Sorts : Type 0 where
-    no_sorts : Sorts
-    and_sort : Sort → Sorts → Sorts
 
 -- `ident : sort`, or `[ ident ] : sort * .. -> sort`
 pub data Declaration : Type 0 where

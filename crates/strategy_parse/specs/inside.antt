@@ -3,6 +3,8 @@ pub mod Forms
 pub mod NextToken
 pub mod Fronts
 pub mod Parser
+pub mod SortStacks
+pub mod Stacked
 pub mod ModuleFronts
 pub mod Sections
 pub mod StuckPlaces

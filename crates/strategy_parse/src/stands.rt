@@ -4,13 +4,13 @@
 ghost use Rattle.std.specs.Prelude.{◌≡◌, ◌↔◌, ◌≤◌, ◌<◌, ◌-◌, ◌∷◌, [], true, false, take, drop, length, slice_get, option_map, IfOk, IfSome, Some, Err};
 ghost use Rattle.strategy_syntax.specs.Syntax as syntax;
 ghost use Rattle.strategy_parse.specs.Gives.{GivesStrategy, GivesPattern, GivesDefinition, GivesDeclaration};
-ghost use Rattle.strategy_parse.specs.inside.ModuleFronts.{listed};
+ghost use Rattle.strategy_parse.specs.inside.ModuleFronts.{module_with};
 ghost use Rattle.strategy_tokens.specs.Places.{places};
 ghost use Rattle.strategy_tokens.specs.Items.{module_tokens};
 ghost use Rattle.strategy_tokens.specs.Tokens.{tokens};
 ghost use Rattle.strategy_tokens.specs.declared.token.Token.{Token};
 
-use crate::modules::{read_declaration, read_definition};
+use crate::modules::{Declared, read_declaration, read_definition};
 use crate::parser::{SyntaxFault, read_pattern, read_strategy};
 use std::alloc::Global;
 use strategy_syntax::{Constructor, Definition, Pattern, Strategy};
@@ -161,18 +161,22 @@ pub fn declaration_stands_at(
     if end < first || tokens.len() < end {
         return Ok(false);
     }
-    match is_declaration(&tokens[first..end], constructor) {
+    match is_declaration(alloc, &tokens[first..end], constructor) {
         Ok(stands) => Ok(stands),
         Err(NoMemory) => Err(TokensFault::Memory),
     }
 }
 
 // Whether the tokens are a declaration of a constructor.
-fn is_declaration(tokens: &[Token], constructor: &Constructor) -> Result<bool, NoMemory>
+fn is_declaration(
+    alloc: Global,
+    tokens: &[Token],
+    constructor: &Constructor,
+) -> Result<bool, NoMemory>
     ensures yes { IfOk result (λ is. is ≡ true → GivesDeclaration tokens.now constructor.now) }
     ensures no { IfOk result (λ is. is ≡ false → GivesDeclaration tokens.now constructor.now → ⊥) }
 {
-    match read_declaration(tokens) {
+    match read_declaration(alloc, tokens) {
         Ok((declared, left)) => Ok(is_all(declared, left, constructor)),
         Err(SyntaxFault::Syntax) => Ok(false),
         Err(SyntaxFault::Memory) => Err(NoMemory),
@@ -180,13 +184,17 @@ fn is_declaration(tokens: &[Token], constructor: &Constructor) -> Result<bool, N
 }
 
 // Whether this constructor was declared, and no token is left.
-fn is_all(declared: Option<Constructor>, left: &[Token], constructor: &Constructor) -> bool
-    ensures yes { result ≡ true → (listed declared ≡ constructor.now ∷ []) × (left.now ≡ []) }
-    ensures no { result ≡ false → listed declared ≡ constructor.now ∷ [] → left.now ≡ [] → ⊥ }
+fn is_all(declared: Declared, left: &[Token], constructor: &Constructor) -> bool
+    ensures yes { result ≡ true → ((module_with declared).constructors ≡ constructor.now ∷ []) × (left.now ≡ []) }
+    ensures no { result ≡ false → (module_with declared).constructors ≡ constructor.now ∷ [] → left.now ≡ [] → ⊥ }
 {
     match declared {
-        Some(found) => left.is_empty() && found.equals(constructor),
-        None => false,
+        Declared::Constructor(found) => {
+            left.is_empty()
+                && found.arguments().len() == constructor.arity()
+                && found.name().equals(constructor.name())
+        }
+        Declared::Injection(_) => false,
     }
 }
 

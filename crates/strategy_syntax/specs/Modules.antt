@@ -1,6 +1,7 @@
 -- Modules of the strategy language, as contracts see them.
 use Rattle.std.specs.Prelude.{ℕ, List}
 use Rattle.term_core.specs.Tree.{Symbol}
+use Rattle.term_sorts.specs.Sorts.{Declaration, Injection}
 use Rattle.strategy_syntax.specs.Syntax.{Strategy}
 
 -- A constructor that a signature declares, with the number of its arguments.
@@ -19,4 +20,6 @@ pub record Definition : Type 0 where
 -- the same name and numbers of parameters.
 pub record Module : Type 0 where
   pub constructors : List Constructor
+  pub declarations : List Declaration  -- the same constructors, with sorts
+  pub injections : List Injection
   pub definitions : List Definition

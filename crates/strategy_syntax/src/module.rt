@@ -1,4 +1,4 @@
-//! Modules: the constructors that they declare, and their definitions.
+//! Modules: what they declare, and their definitions.
 
 ghost use Rattle.std.specs.Prelude.{◌≡◌, ◌↔◌, ◌<◌, length, IfSome, IsTrue};
 
@@ -6,6 +6,7 @@ use crate::names::same_names;
 use crate::{Place, Placed, Strategy};
 use std::marker::Model;
 use term_core::Name;
+use term_sorts::{Declaration, Injection};
 
 /// A constructor that a signature declares, with the number of its arguments.
 #[derive(PartialEq, Eq, Hash)]
@@ -76,6 +77,8 @@ impl Drop for Definition {
 /// The declarations and definitions of a module, in the order of its text.
 pub struct Module {
     constructors: Vec<Placed<Constructor>>,
+    declarations: Vec<Declaration>,
+    injections: Vec<Injection>,
     definitions: Vec<Definition>,
 }
 
@@ -89,6 +92,8 @@ impl Model for Module {
 
     ghost view = { λ m. record {
       constructors = m.constructors.items;
+      declarations = m.declarations.items;
+      injections = m.injections.items;
       definitions = m.definitions.items;
     } };
 }
@@ -98,6 +103,8 @@ impl Drop for Module {
     fn drop(self) {
         let Module {
             constructors: _,
+            declarations: _,
+            injections: _,
             definitions: _,
         } = self;
     }
@@ -229,14 +236,23 @@ impl Definition {
 
 impl Module {
     /// The module with these declarations and definitions, in this order.
-    pub fn new(constructors: Vec<Placed<Constructor>>, definitions: Vec<Definition>) -> Module
+    pub fn new(
+        constructors: Vec<Placed<Constructor>>,
+        declarations: Vec<Declaration>,
+        injections: Vec<Injection>,
+        definitions: Vec<Definition>,
+    ) -> Module
         ensures { result ≡ record {
           constructors = constructors.items;
+          declarations = declarations.items;
+          injections = injections.items;
           definitions = definitions.items;
         } }
     {
         Module {
             constructors,
+            declarations,
+            injections,
             definitions,
         }
     }
@@ -245,6 +261,20 @@ impl Module {
         ensures { result.now ≡ self.now.constructors }
     {
         self.constructors.as_slice()
+    }
+
+    /// The constructors with the sorts of their arguments and of their terms.
+    pub fn declarations(&self) -> &[Declaration]
+        ensures { result.now ≡ self.now.declarations }
+    {
+        self.declarations.as_slice()
+    }
+
+    /// The sorts whose terms are of another sort, too.
+    pub fn injections(&self) -> &[Injection]
+        ensures { result.now ≡ self.now.injections }
+    {
+        self.injections.as_slice()
     }
 
     pub fn definitions(&self) -> &[Definition]
@@ -270,6 +300,8 @@ impl Module {
         ensures { IsTrue result ↔ (self.now ≡ other.now) }
     {
         same_constructors(&self.constructors, &other.constructors)
+            && same_declarations(&self.declarations, &other.declarations)
+            && same_injections(&self.injections, &other.injections)
             && same_definitions(&self.definitions, &other.definitions)
     }
 }
@@ -282,6 +314,34 @@ fn same_constructors(constructors: &[Placed<Constructor>], others: &[Placed<Cons
     }
     for (constructor, other) in constructors.iter().zip(others) {
         if !constructor.item().equals(other.item()) {
+            return false;
+        }
+    }
+    true
+}
+
+fn same_declarations(declarations: &[Declaration], others: &[Declaration]) -> bool
+    ensures { IsTrue result ↔ (declarations.now ≡ others.now) }
+{
+    if declarations.len() != others.len() {
+        return false;
+    }
+    for (declaration, other) in declarations.iter().zip(others) {
+        if !declaration.equals(other) {
+            return false;
+        }
+    }
+    true
+}
+
+fn same_injections(injections: &[Injection], others: &[Injection]) -> bool
+    ensures { IsTrue result ↔ (injections.now ≡ others.now) }
+{
+    if injections.len() != others.len() {
+        return false;
+    }
+    for (injection, other) in injections.iter().zip(others) {
+        if !injection.equals(other) {
             return false;
         }
     }

@@ -151,10 +151,14 @@ strategies f = id == module m rules f(|) = id
 module a strategies f = fail f = id != strategies f = id f = fail
 rules f = g g = id signature constructors A : t == signature constructors A : t strategies f = g g = id
 strategies R : x -> x f = id rules g = f == strategies R = {x: ?x; !x} f = id g = f
-signature constructors A : t S : t -> t F : t * t -> t == signature constructors A : a S : b -> c F : c(a) * b -> a
+signature constructors A : t S : t -> t F : t * t -> t != signature constructors A : a S : b -> c F : c(a) * b -> a
+signature constructors F : a * b -> a != signature constructors F : b * a -> a
+signature constructors F : a(b,c) -> a != signature constructors F : a(c,b) -> a
+signature constructors : a -> b != signature constructors : b -> a
+signature constructors F : string * List(List(a)) -> a : List -> string == signature constructors F : str * list(list(a)) -> a : list -> str
 signature constructors F : t * t -> t != signature constructors F : t -> t
-signature sorts A B(C) constructors F : A * B(C) -> A G : A : A -> A == signature constructors F : A * A -> A G : A
-signature sorts A(B(C,D),E) constructors : A * B -> C H : A(B(C),D) * E -> A == signature constructors H : A * A -> A
+signature sorts A B(C) constructors F : A * B(C) -> A G : A : A -> A == signature constructors F : A * B(C) -> A : A -> A G : A
+signature sorts A(B(C,D),E) constructors : A * B -> C H : A(B(C),D) * E -> A == signature constructors H : A(B(C),D) * E -> A : tuple(A,B) -> C
 signature constructors H : t -> t strategies H(s) = s == signature constructors H : t -> t strategies H(s|) = s()
 strategies f() = id == strategies f = id
 strategies f(a,b|) = a == strategies f(a,b) = a

@@ -1,8 +1,9 @@
 -- What a list of tokens in a module begins with, and the rest, as functions: names, the headers of
 -- definitions, sorts and declarations.
-use Rattle.std.specs.Prelude.{ℕ, zero, suc, List, [], ◌∷◌, ◌++◌, if◌then◌else◌, Some, None}
+use Rattle.std.specs.Prelude.{ℕ, zero, suc, List, [], ◌∷◌, ◌++◌, if◌then◌else◌, length, Some, None}
 use Rattle.std.specs.declared.option.Option.{Option}
 use Rattle.term_core.specs.Tree.{Symbol}
+use Rattle.term_sorts.specs.Sorts.{Sort, sort, sorts_of, plain}
 use Rattle.strategy_syntax.specs.Modules as syntax
 use Rattle.strategy_tokens.specs.declared.token.Token.{Token}
 use Rattle.strategy_tokens.specs.declared.token.Token.TheVariants.{Ident, Bad}
@@ -12,8 +13,13 @@ use Rattle.strategy_parse.specs.declared.modules.sorts.SortState.{SortState}
 use Rattle.strategy_parse.specs.declared.modules.sorts.SortState.TheVariants.{Begins, Named, Closed}
 use Rattle.strategy_parse.specs.declared.modules.sorts.Turn.{Turn}
 use Rattle.strategy_parse.specs.declared.modules.sorts.Turn.TheVariants.{Reads, Ends, Stuck}
+use Rattle.strategy_parse.specs.declared.modules.declarations.Declared.{Declared}
+use Rattle.strategy_parse.specs.declared.modules.declarations.Declared.TheVariants.{Constructor as AConstructor, Injection as AnInjection}
 use Rattle.strategy_tokens.specs.Marks.{is_mark}
 use Rattle.strategy_parse.specs.Written.{Header}
+use Rattle.strategy_parse.specs.Core.{injected_sort}
+use Rattle.strategy_parse.specs.inside.NextToken.{next_token}
+use Rattle.strategy_parse.specs.inside.SortStacks.{OpenSort, SortStack, no_stack}
 
 -- the rest after a sign, if it comes first
 abbrev pub after_mark : Sign → List Token → Option (List Token)
@@ -126,42 +132,88 @@ one_sort r = None
 abbrev pub sort_at : List Token → Option (List Token)
 sort_at x = one_sort (sorts_at x)
 
+-- ---- sorts that are kept
+
+abbrev pub with_sort : SortStack → Symbol → List Sort → SortStack
+with_sort k f ss = record { around = k.around; sorts = k.sorts ++ sort (plain f) (sorts_of ss) ∷ [] }
+
+abbrev pub opened : SortStack → Symbol → SortStack
+opened k f = record { around = record { name = f; before = k.sorts } ∷ k.around; sorts = [] }
+
+abbrev pub closed : List OpenSort → List Sort → SortStack
+closed [] ss = record { around = []; sorts = ss }
+closed (o ∷ os) ss = with_sort (record { around = os; sorts = o.before }) o.name ss
+
+-- a token is read, and this one comes next
+abbrev pub stacked : SortStack → Token → Token → SortStack
+stacked k (Ident f) next = if (is_mark OpenRound next) then opened k f else with_sort k f []
+stacked k t next = if (is_mark CloseRound t) then closed k.around k.sorts else k
+
+abbrev pub KeptLeft : Type 0
+KeptLeft = Option (List Sort × List Token)
+
+abbrev pub keep_goes : (SortState → ℕ → KeptLeft) → KeptLeft → Turn → KeptLeft
+keep_goes k end (Reads p d) = k p d
+keep_goes k end Ends = end
+keep_goes k end Stuck = None
+
+-- the sorts at the start, and the rest
+abbrev pub kept_from : SortState → ℕ → SortStack → List Token → KeptLeft
+kept_from p d k [] = keep_goes (λ q e. None) (Some (k.sorts, [])) (sort_step p d Bad)
+kept_from p d k (t ∷ ts) =
+    keep_goes (λ q e. kept_from q e (stacked k t (next_token ts)) ts)
+    (if (is_mark Star t) then kept_from Begins 0 k ts else Some (k.sorts, t ∷ ts))
+    (sort_step p d t)
+
+abbrev pub kept_at : List Token → KeptLeft
+kept_at x = kept_from Begins 0 no_stack x
+
+-- one sort, and the rest
+abbrev pub one_kept : KeptLeft → Option (Sort × List Token)
+one_kept (Some (s ∷ [], x)) = Some (s, x)
+one_kept r = None
+
 -- ---- declarations
 
 abbrev pub DeclaredLeft : Type 0
-DeclaredLeft = Option (List syntax.Constructor × List Token)
+DeclaredLeft = Option (Declared × List Token)
 
--- the constructor with this name and number of arguments
-abbrev pub named_constructor : Option Symbol → ℕ → List syntax.Constructor
-named_constructor None n = []
-named_constructor (Some f) n = record { name = f; arity = n } ∷ []
+-- a constructor with its sorts, or an injection
+abbrev pub declared_of : Option Symbol → List Sort → Sort → Declared
+declared_of None ss r = AnInjection (record { from = injected_sort ss; to = r })
+declared_of (Some f) ss r = AConstructor (record { name = f; arguments = ss; result = r })
 
-abbrev pub after_result : List syntax.Constructor → Option (List Token) → DeclaredLeft
-after_result cs None = None
-after_result cs (Some x) = Some (cs, x)
+abbrev pub after_result : Option Symbol → List Sort → Option (Sort × List Token) → DeclaredLeft
+after_result f ss None = None
+after_result f ss (Some (r, x)) = Some (declared_of f ss r, x)
 
 -- if no arrow follows, it is a name with one sort
-abbrev pub without_arrow : Option Symbol → ℕ → List Token → DeclaredLeft
-without_arrow (Some f) (suc zero) x = Some (named_constructor (Some f) 0, x)
-without_arrow f n x = None
+abbrev pub without_arrow : Option Symbol → List Sort → List Token → DeclaredLeft
+without_arrow (Some f) (s ∷ []) x = Some (declared_of (Some f) [] s, x)
+without_arrow f ss x = None
 
-abbrev pub after_arrow : Option Symbol → ℕ → List Token → Option (List Token) → DeclaredLeft
-after_arrow f n x (Some y) = after_result (named_constructor f n) (sort_at y)
-after_arrow f n x None = without_arrow f n x
+abbrev pub after_arrow : Option Symbol → List Sort → List Token → Option (List Token) → DeclaredLeft
+after_arrow f ss x (Some y) = after_result f ss (one_kept (kept_at y))
+after_arrow f ss x None = without_arrow f ss x
 
-abbrev pub after_arguments : Option Symbol → SortsLeft → DeclaredLeft
+abbrev pub after_arguments : Option Symbol → KeptLeft → DeclaredLeft
 after_arguments f None = None
-after_arguments f (Some (n, x)) = after_arrow f n x (after_mark RightArrow x)
+after_arguments f (Some (ss, x)) = after_arrow f ss x (after_mark RightArrow x)
 
 abbrev pub after_colon : Option Symbol → Option (List Token) → DeclaredLeft
 after_colon f None = None
-after_colon f (Some x) = after_arguments f (sorts_at x)
+after_colon f (Some x) = after_arguments f (kept_at x)
 
 abbrev pub declaration_at : List Token → DeclaredLeft
 declaration_at (Ident f ∷ ts) = after_colon (Some f) (after_mark Colon ts)
 declaration_at x = after_colon None (after_mark Colon x)
 
--- a constructor, or none, as a list
-abbrev pub listed : Option syntax.Constructor → List syntax.Constructor
-listed None = []
-listed (Some c) = c ∷ []
+-- the module of it alone
+abbrev pub module_with : Declared → syntax.Module
+module_with (AConstructor d) = record {
+  constructors = record { name = d.name; arity = length d.arguments } ∷ [];
+  declarations = d ∷ [];
+  injections = [];
+  definitions = [];
+}
+module_with (AnInjection i) = record { constructors = []; declarations = []; injections = i ∷ []; definitions = [] }

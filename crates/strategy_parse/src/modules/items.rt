@@ -38,10 +38,7 @@ pub fn definition_tokens(alloc: Global, text: &[u8]) -> Result<Vec<DefinitionTok
 
 fn find_definitions(alloc: Global, tokens: &[Token]) -> Result<Vec<DefinitionTokens>, NoMemory> {
     let mut found = Vec::new(alloc);
-    let mut built = Built {
-        constructors: Vec::new(alloc),
-        definitions: Vec::new(alloc),
-    };
+    let mut built = Built::new(alloc);
     let mut context = Context::Outside;
     let mut left = after_title(tokens).unwrap_or(&[]);
     while let Some((token, rest)) = left.split_first() {

@@ -10,11 +10,12 @@ mod parse;
 mod place;
 mod rules;
 mod sections;
+mod sort_stack;
 mod sorts;
 mod stuck;
 mod tokens;
 
-pub use declarations::read_declaration;
+pub use declarations::{Declared, read_declaration};
 pub use definitions::read_definition;
 pub use items::{DefinitionTokens, definition_tokens};
 pub use parse::parse_module;

@@ -1,16 +1,19 @@
 //! The sections of a module.
 
-ghost use Rattle.std.specs.Prelude.{◌≡◌, ◌<◌, ◌∷◌, length, IfOk, Err};
+ghost use Rattle.std.specs.Prelude.{◌≡◌, ◌<◌, ◌∷◌, length, IfOk, OnOk, Err};
 ghost use Rattle.strategy_syntax.specs.Modules as syntax;
-ghost use Rattle.strategy_parse.specs.inside.Sections.{IsItem, Left, SectionStands, in_signature, next_context};
+ghost use Rattle.strategy_parse.specs.inside.ModuleFronts.{module_with};
+ghost use Rattle.strategy_parse.specs.inside.Sections.{IsItem, Left, SectionStands, built_module, in_signature, joined, next_context, nothing};
 
-use crate::modules::declarations::read_declaration;
+use crate::modules::declarations::{Declared, read_declaration};
 use crate::modules::definitions::read_definition;
 use crate::modules::sorts::skip_sort;
 use crate::parser::SyntaxFault;
 use std::alloc::Global;
 use strategy_syntax::{Constructor, Definition, Module, Place, Placed};
 use strategy_tokens::{Keyword, Token};
+use term_core::NoMemory;
+use term_sorts::{Declaration, Injection};
 
 /// What may come next in a module, besides another section.
 #[derive(Clone, Copy)]
@@ -31,7 +34,52 @@ pub enum Context {
 #[derive(Drop)]
 pub struct Built {
     pub constructors: Vec<Placed<Constructor>>,
+    pub declarations: Vec<Declaration>,
+    pub injections: Vec<Injection>,
     pub definitions: Vec<Definition>,
+}
+
+impl Built {
+    /// Nothing.
+    pub fn new(alloc: Global) -> Built
+        ensures { built_module result ≡ nothing }
+    {
+        Built {
+            constructors: Vec::new(alloc),
+            declarations: Vec::new(alloc),
+            injections: Vec::new(alloc),
+            definitions: Vec::new(alloc),
+        }
+    }
+
+    // Adds what a declaration at this place declares.
+    fn add(&mut self, declared: Declared, place: Place) -> Result<(), NoMemory>
+        ensures { OnOk result (built_module self.new ≡ joined (built_module self.old) (module_with declared)) }
+    {
+        match declared {
+            Declared::Constructor(declaration) => {
+                let name = declaration.name().try_clone()?;
+                let constructor = Constructor::new(name, declaration.arguments().len());
+                self.constructors.push(Placed::new(constructor, place))?;
+                self.declarations.push(declaration)?;
+            }
+            Declared::Injection(injection) => self.injections.push(injection)?,
+        }
+        Ok(())
+    }
+
+    /// The module of all that was read.
+    fn into_module(self) -> Module
+        ensures { result ≡ built_module self }
+    {
+        let Built {
+            constructors,
+            declarations,
+            injections,
+            definitions,
+        } = self;
+        Module::new(constructors, declarations, injections, definitions)
+    }
 }
 
 /// The module whose sections are these tokens.
@@ -41,10 +89,7 @@ pub fn read_sections(alloc: Global, tokens: &[Token]) -> Result<Module, SyntaxFa
     ensures none { result ≡ Err SyntaxFault.Syntax → (r : syntax.Module)
         → Left Context.Outside tokens.now r → ⊥ }
 {
-    let mut built = Built {
-        constructors: Vec::new(alloc),
-        definitions: Vec::new(alloc),
-    };
+    let mut built = Built::new(alloc);
     let mut context = Context::Outside;
     let mut left = tokens;
     while let Some((token, rest)) = left.split_first() {
@@ -52,11 +97,7 @@ pub fn read_sections(alloc: Global, tokens: &[Token]) -> Result<Module, SyntaxFa
         context = next;
         left = after;
     }
-    let Built {
-        constructors,
-        definitions,
-    } = built;
-    Ok(Module::new(constructors, definitions))
+    Ok(built.into_module())
 }
 
 /// Reads a word that begins a part of the module, or else an item of the context, from the
@@ -71,13 +112,13 @@ pub fn read_next<'a>(
 ) -> Result<(Context, &'a [Token]), SyntaxFault>
     requires { tokens.now ≡ token.now ∷ rest.now }
     ensures forth { IfOk result (λ r. (m : syntax.Module)
-        → SectionStands context built.old.constructors.items built.old.definitions.items tokens.now m
-        → SectionStands r.0 built.new.constructors.items built.new.definitions.items r.1.now m) }
+        → SectionStands context (built_module built.old) tokens.now m
+        → SectionStands r.0 (built_module built.new) r.1.now m) }
     ensures back { IfOk result (λ r. (m : syntax.Module)
-        → SectionStands r.0 built.new.constructors.items built.new.definitions.items r.1.now m
-        → SectionStands context built.old.constructors.items built.old.definitions.items tokens.now m) }
+        → SectionStands r.0 (built_module built.new) r.1.now m
+        → SectionStands context (built_module built.old) tokens.now m) }
     ensures none { result ≡ Err SyntaxFault.Syntax → (m : syntax.Module)
-        → SectionStands context built.old.constructors.items built.old.definitions.items tokens.now m → ⊥ }
+        → SectionStands context (built_module built.old) tokens.now m → ⊥ }
     ensures shorter { IfOk result (λ r. length r.1.now < length tokens.now) }
 {
     if let Token::Reserved(word) = token {
@@ -125,50 +166,48 @@ fn read_item<'a>(
 ) -> Result<&'a [Token], SyntaxFault>
     requires { IsItem tokens.now }
     ensures forth { IfOk result (λ rest. (m : syntax.Module)
-        → SectionStands context built.old.constructors.items built.old.definitions.items tokens.now m
-        → SectionStands context built.new.constructors.items built.new.definitions.items rest.now m) }
+        → SectionStands context (built_module built.old) tokens.now m
+        → SectionStands context (built_module built.new) rest.now m) }
     ensures back { IfOk result (λ rest. (m : syntax.Module)
-        → SectionStands context built.new.constructors.items built.new.definitions.items rest.now m
-        → SectionStands context built.old.constructors.items built.old.definitions.items tokens.now m) }
+        → SectionStands context (built_module built.new) rest.now m
+        → SectionStands context (built_module built.old) tokens.now m) }
     ensures none { result ≡ Err SyntaxFault.Syntax → (m : syntax.Module)
-        → SectionStands context built.old.constructors.items built.old.definitions.items tokens.now m → ⊥ }
+        → SectionStands context (built_module built.old) tokens.now m → ⊥ }
     ensures shorter { IfOk result (λ rest. length rest.now < length tokens.now) }
 {
     match context {
         Context::Sorts => skip_sort(tokens),
-        Context::Constructors => add_declaration(tokens, built),
+        Context::Constructors => add_declaration(alloc, tokens, built),
         Context::Definitions => add_definition(alloc, tokens, built),
         _ => Err(SyntaxFault::Syntax),
     }
 }
 
 // Reads a declaration.
-fn add_declaration<'a>(tokens: &'a [Token], built: &mut Built) -> Result<&'a [Token], SyntaxFault>
+fn add_declaration<'a>(
+    alloc: Global,
+    tokens: &'a [Token],
+    built: &mut Built,
+) -> Result<&'a [Token], SyntaxFault>
     requires { IsItem tokens.now }
     ensures forth { IfOk result (λ rest. (m : syntax.Module)
-        → SectionStands Context.Constructors built.old.constructors.items built.old.definitions.items
+        → SectionStands Context.Constructors (built_module built.old)
         tokens.now m
-        → SectionStands Context.Constructors built.new.constructors.items built.new.definitions.items
+        → SectionStands Context.Constructors (built_module built.new)
         rest.now m) }
     ensures back { IfOk result (λ rest. (m : syntax.Module)
-        → SectionStands Context.Constructors built.new.constructors.items built.new.definitions.items
+        → SectionStands Context.Constructors (built_module built.new)
         rest.now m
-        → SectionStands Context.Constructors built.old.constructors.items built.old.definitions.items
+        → SectionStands Context.Constructors (built_module built.old)
         tokens.now m) }
     ensures none { result ≡ Err SyntaxFault.Syntax → (m : syntax.Module)
-        → SectionStands Context.Constructors built.old.constructors.items built.old.definitions.items
+        → SectionStands Context.Constructors (built_module built.old)
         tokens.now m → ⊥ }
     ensures shorter { IfOk result (λ rest. length rest.now < length tokens.now) }
 {
-    let (declared, rest) = read_declaration(tokens)?;
-    match declared {
-        Some(constructor) => {
-            let place = Place::new(tokens.len(), rest.len());
-            built.constructors.push(Placed::new(constructor, place))?;
-            Ok(rest)
-        }
-        None => Ok(rest),
-    }
+    let (declared, rest) = read_declaration(alloc, tokens)?;
+    built.add(declared, Place::new(tokens.len(), rest.len()))?;
+    Ok(rest)
 }
 
 // Reads a definition.
@@ -179,17 +218,17 @@ fn add_definition<'a>(
 ) -> Result<&'a [Token], SyntaxFault>
     requires { IsItem tokens.now }
     ensures forth { IfOk result (λ rest. (m : syntax.Module)
-        → SectionStands Context.Definitions built.old.constructors.items built.old.definitions.items
+        → SectionStands Context.Definitions (built_module built.old)
         tokens.now m
-        → SectionStands Context.Definitions built.new.constructors.items built.new.definitions.items
+        → SectionStands Context.Definitions (built_module built.new)
         rest.now m) }
     ensures back { IfOk result (λ rest. (m : syntax.Module)
-        → SectionStands Context.Definitions built.new.constructors.items built.new.definitions.items
+        → SectionStands Context.Definitions (built_module built.new)
         rest.now m
-        → SectionStands Context.Definitions built.old.constructors.items built.old.definitions.items
+        → SectionStands Context.Definitions (built_module built.old)
         tokens.now m) }
     ensures none { result ≡ Err SyntaxFault.Syntax → (m : syntax.Module)
-        → SectionStands Context.Definitions built.old.constructors.items built.old.definitions.items
+        → SectionStands Context.Definitions (built_module built.old)
         tokens.now m → ⊥ }
     ensures shorter { IfOk result (λ rest. length rest.now < length tokens.now) }
 {

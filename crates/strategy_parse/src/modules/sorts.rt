@@ -1,11 +1,14 @@
-//! Sorts, which are read and ignored.
+//! Sorts: those of declarations are kept, and others are passed over.
 #![tactic(auto, using(crate::proofs::SortLemmas::sort_rules))]
 
-ghost use Rattle.std.specs.Prelude.{◌≡◌, ◌<◌, ◌^◌, length, IfOk, Err, Some, None};
-ghost use Rattle.strategy_parse.specs.inside.ModuleFronts.{sort_step, after_sort, sorts_at, sort_at};
+ghost use Rattle.std.specs.Prelude.{◌≡◌, ◌<◌, ◌^◌, ◌∷◌, [], length, IfOk, IfSome, IfNone, Err, Some, None};
+ghost use Rattle.strategy_parse.specs.inside.ModuleFronts.{sort_step, after_sort, sorts_at, sort_at, kept_at, one_kept};
 
+use crate::modules::sort_stack::SortStack;
 use crate::parser::SyntaxFault;
+use std::alloc::Global;
 use strategy_tokens::{Sign, Token, is_mark};
+use term_sorts::Sort;
 
 /// What was read last of a sort.
 #[derive(Clone, Copy)]
@@ -109,4 +112,64 @@ pub fn skip_sort<'a>(tokens: &'a [Token]) -> Result<&'a [Token], SyntaxFault>
         return Err(SyntaxFault::Syntax);
     }
     Ok(rest)
+}
+
+/// The sorts at the start of the tokens, at least one, separated by `*`, and the rest.
+#[tactic(auto, using(crate::proofs::SortLemmas::kept_rules))]
+pub fn read_sorts<'a>(
+    alloc: Global,
+    tokens: &'a [Token],
+) -> Result<(Vec<Sort>, &'a [Token]), SyntaxFault>
+    ensures ok { IfOk result (λ r. kept_at tokens.now ≡ Some (r.0.items, r.1.now)) }
+    ensures none { result ≡ Err SyntaxFault.Syntax → kept_at tokens.now ≡ None }
+{
+    let mut stack = SortStack::new(alloc);
+    let mut place = SortState::Begins;
+    let mut depth = 0usize;
+    let mut left = tokens;
+    while let Some((token, rest)) = left.split_first() {
+        match sort_step(place, depth, token) {
+            Turn::Reads(next, open) => {
+                stack.take(alloc, token, rest)?;
+                place = next;
+                depth = open;
+            }
+            Turn::Ends => {
+                if !is_mark(token, Sign::Star) {
+                    return Ok((stack.into_sorts(), left));
+                }
+                place = SortState::Begins;
+            }
+            Turn::Stuck => return Err(SyntaxFault::Syntax),
+        }
+        left = rest;
+    }
+    match sort_step(place, depth, &Token::Bad) {
+        Turn::Ends => Ok((stack.into_sorts(), left)),
+        _ => Err(SyntaxFault::Syntax),
+    }
+}
+
+/// The sort at the start of the tokens, and the rest.
+#[tactic(auto, using(crate::proofs::SortLemmas::kept_rules))]
+pub fn read_sort<'a>(alloc: Global, tokens: &'a [Token]) -> Result<(Sort, &'a [Token]), SyntaxFault>
+    ensures ok { IfOk result (λ r. one_kept (kept_at tokens.now) ≡ Some (r.0, r.1.now)) }
+    ensures none { result ≡ Err SyntaxFault.Syntax → one_kept (kept_at tokens.now) ≡ None }
+{
+    let (sorts, rest) = read_sorts(alloc, tokens)?;
+    match only(sorts) {
+        Some(sort) => Ok((sort, rest)),
+        None => Err(SyntaxFault::Syntax),
+    }
+}
+
+/// The sort, if it is only one.
+pub fn only(mut sorts: Vec<Sort>) -> Option<Sort>
+    ensures some { IfSome result (λ sort. sorts.items ≡ sort ∷ []) }
+    ensures none { IfNone result (length sorts.items ≡ 1 → ⊥) }
+{
+    if sorts.len() > 1 {
+        return None;
+    }
+    sorts.pop()
 }

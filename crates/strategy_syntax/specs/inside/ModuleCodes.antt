@@ -3,6 +3,8 @@ use Rattle.std.specs.Prelude.{ℕ, List, refl}
 use Rattle.std.specs.Coded.{Coded, code_by, coded×, coded_ℕ, coded_list}
 use Rattle.term_core.specs.Tree.{Symbol}
 use Rattle.term_core.specs.inside.TreeCode.{symbol_code}
+use Rattle.term_sorts.specs.Sorts.{Declaration, Injection}
+use Rattle.term_sorts.specs.inside.SortCode.{declaration_code, injection_code}
 use Rattle.strategy_syntax.specs.Syntax.{Strategy}
 use Rattle.strategy_syntax.specs.inside.Codes.{strategy_code}
 use Rattle.strategy_syntax.specs.Modules.{Constructor, Definition, Module}
@@ -28,7 +30,15 @@ definition_code =
 
 abbrev pub module_code : Coded Module
 module_code =
-    code_by (List Constructor × List Definition)
-    (coded× (coded_list constructor_code) (coded_list definition_code))
-    (λ m. (m.constructors, m.definitions))
-    (λ p. record { constructors = p.0; definitions = p.1 }) (λ _. refl)
+    code_by (List Constructor × (List Declaration × (List Injection × List Definition)))
+    (coded× (coded_list constructor_code)
+    (coded× (coded_list declaration_code)
+    (coded× (coded_list injection_code) (coded_list definition_code))))
+    (λ m. (m.constructors, (m.declarations, (m.injections, m.definitions))))
+    (λ p. record {
+      constructors = p.0;
+      declarations = p.1.0;
+      injections = p.1.1.0;
+      definitions = p.1.1.1;
+    })
+    (λ _. refl)
