@@ -1,4 +1,5 @@
 pub mod Refusal
 pub mod Modules
+pub mod Sorting
 pub mod Kept
 pub mod inside

@@ -1,1 +1,2 @@
+pub mod Declaring
 pub mod Replaced

@@ -5,8 +5,10 @@ mod cache;
 mod checked;
 mod reading;
 mod refusal;
+mod sorting;
 
 pub use cache::ModuleCache;
 pub use checked::CheckedTexts;
 pub use reading::{ReadModule, module_text, read_module};
 pub use refusal::Refusal;
+pub use sorting::{SortFault, signature_of};
