@@ -9,7 +9,7 @@ ghost use Rattle.strategy_run.specs.Planning.{Plans};
 
 use crate::ended::Ended;
 use crate::looking::{Look, plan_patch_seen};
-use crate::planning::{Planned, plan_patch};
+use crate::planning::Planned;
 use prim_core::Meaning;
 use std::alloc::Global;
 use std::sync::Arc;
@@ -81,7 +81,6 @@ impl<'t> Look<'t> for Heeding<'_> {
 }
 
 /// As [`crate::plan_patch`], but that a stop ends it as want of memory does, before its next turn.
-/// Where there is none, a turn costs no more than there.
 pub fn plan_patch_until<M: Meaning>(
     alloc: Global,
     host: &Host<'_, M>,
@@ -97,11 +96,12 @@ pub fn plan_patch_until<M: Meaning>(
         (run_whole (world_of M.meaning host.now.definitions.now host.now.primitives.now host.now.room)
         level strategy.now steps term.now)) }
 {
-    match stop {
-        Some(stop) => {
-            let mut look = Heeding { asked: &stop.asked };
-            plan_patch_seen(alloc, host, term, level, strategy, steps, &mut look)
-        }
-        None => plan_patch(alloc, host, term, level, strategy, steps),
-    }
+    // One loop for both: with a second one the compiler calls what each turn begins with.
+    let never = AtomicBool::new(false);
+    let asked = match stop {
+        Some(stop) => &*stop.asked,
+        None => &never,
+    };
+    let mut look = Heeding { asked };
+    plan_patch_seen(alloc, host, term, level, strategy, steps, &mut look)
 }
