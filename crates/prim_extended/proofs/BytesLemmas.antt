@@ -15,7 +15,7 @@ joined : (before : List ℕ) (b : ℕ) (o : Option (List ℕ))
 joined before b None = refl
 joined before b (Some bs) = ap Some (sym (append_assoc before (b ∷ []) bs))
 
-front : (ts : List Tree) (i : ℕ) (t : Tree) → i < length ts → t ≡ get_or ts i t → drop i ts ≡ t ∷ drop (i + 1) ts
+pub front : (ts : List Tree) (i : ℕ) (t : Tree) → i < length ts → t ≡ get_or ts i t → drop i ts ≡ t ∷ drop (i + 1) ts
 front ts i t h is = rw add-one (drop-cons ts i t h ∙ ap (λ u. u ∷ drop (suc i) ts) (sym is))
 
 -- what comes after the bytes so far, where the value of the next element is o
@@ -55,11 +55,11 @@ each-length : (ts : List Tree) (xs : List ℕ) → each byte_value ts ≡ Some x
 each-length [] xs e = let e2 : xs ≡ [] = cc in ap length e2
 each-length (t ∷ ts) xs e = more-length (byte_value t) (each byte_value ts) (length ts) xs e (each-length ts)
 
-in_range : (bs : List ℕ) → length bs ≤ 65536 → string_in_range bs ≡ Some (string_term bs)
+pub in_range : (bs : List ℕ) → length bs ≤ 65536 → string_in_range bs ≡ Some (string_term bs)
 in_range bs h = let e : nat_le (length bs) 65536 ≡ true = grind (arith, nat_tests) in
     ap (λ t. cond t (Some (string_term bs)) None) e
 
-out_of_range : (bs : List ℕ) → 65536 < length bs → string_in_range bs ≡ None
+pub out_of_range : (bs : List ℕ) → 65536 < length bs → string_in_range bs ≡ None
 out_of_range bs h = let e : nat_le (length bs) 65536 ≡ false = grind (arith, nat_tests) in
     ap (λ t. cond t (Some (string_term bs)) None) e
 

@@ -169,6 +169,56 @@ no_such_key : extended (codes "list-lookup") (pair (integer_term (pos 1)) (list_
     (list_term (integers (pos 1) (pos 2)) ∷ tuple_term (integer_term (pos 1) ∷ integers (pos 2) (pos 3)) ∷ []))) ≡ None
 no_such_key = refl
 
+-- ---- strings
+
+searched : extended (codes "string-search") (strings (codes "abab") (codes "ba")) ≡ Some (integer_term (pos 1))
+searched = refl
+
+searched_for_nothing : extended (codes "string-search") (strings [] []) ≡ Some (integer_term (pos 0))
+searched_for_nothing = refl
+
+not_there : extended (codes "string-search") (strings (codes "ab") (codes "abc")) ≡ None
+not_there = refl
+
+split_up : extended (codes "string-split") (strings (codes ",a,") (codes ","))
+    ≡ Some (list_term (string_term [] ∷ string_term (codes "a") ∷ string_term [] ∷ []))
+split_up = refl
+
+overlapping : extended (codes "string-split") (strings (codes "aaa") (codes "aa"))
+    ≡ Some (list_term (strings [] (codes "a")))
+overlapping = refl
+
+split_at_nothing : extended (codes "string-split") (strings (codes "a") []) ≡ None
+split_at_nothing = refl
+
+joined : extended (codes "string-join") (pair (list_term (strings (codes "a") (codes "b"))) (string_term (codes ", ")))
+    ≡ Some (string_term (codes "a, b"))
+joined = refl
+
+nothing_joined : extended (codes "string-join") (pair (list_term []) (string_term (codes ","))) ≡ Some (string_term [])
+nothing_joined = refl
+
+no_string_joined : extended (codes "string-join")
+    (pair (list_term (pair (string_term []) (integer_term (pos 1)))) (string_term [])) ≡ None
+no_string_joined = refl
+
+in_characters : extended (codes "string-characters") (string_term (97 ∷ 195 ∷ 169 ∷ 226 ∷ 130 ∷ 172 ∷ []) ∷ [])
+    ≡ Some (list_term (string_term (97 ∷ []) ∷ strings (195 ∷ 169 ∷ []) (226 ∷ 130 ∷ 172 ∷ [])))
+in_characters = refl
+
+no_characters : extended (codes "string-characters") (string_term [] ∷ []) ≡ Some (list_term [])
+no_characters = refl
+
+begun_before : extended (codes "string-characters") (string_term (169 ∷ 191 ∷ 192 ∷ []) ∷ [])
+    ≡ Some (list_term (strings (169 ∷ 191 ∷ []) (192 ∷ [])))
+begun_before = refl
+
+upper : extended (codes "upper-case") (string_term (codes "az{Z0") ∷ []) ≡ Some (string_term (codes "AZ{Z0"))
+upper = refl
+
+lower : extended (codes "lower-case") (string_term (codes "AZ[z0") ∷ []) ≡ Some (string_term (codes "az[z0"))
+lower = refl
+
 -- ---- the names of the standard primitives, on all terms
 
 addi_agrees : (terms : List Tree) → extended (codes "addi") terms ≡ standard (codes "addi") terms

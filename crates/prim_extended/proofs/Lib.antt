@@ -5,3 +5,4 @@ pub mod QuoteLemmas
 pub mod ConstructorLemmas
 pub mod GreatestLemmas
 pub mod ListLemmas
+pub mod StringLemmas

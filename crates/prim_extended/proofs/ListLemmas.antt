@@ -18,10 +18,10 @@ ties t u = both_ways (is_eq (compared t u)) (same_tree t u)
     (λ e. (same_is_equal t u).1 (same_terms t u ((Equal-is (compared t u)).0 e)))
     (λ e. (Equal-is (compared t u)).1 (ap (compared t) (sym ((same_is_equal t u).0 e)) ∙ tied_itself order t))
 
--- ---- lists of lists
+-- ---- lists one after the other
 
 -- these elements, and after them what is to come
-abbrev pub onto : List Tree → Option (List Tree) → Option (List Tree)
+abbrev pub onto : {A : Type 0} → List A → Option (List A) → Option (List A)
 onto before o = option_map (λ us. before ++ us) o
 
 -- ---- lists of pairs

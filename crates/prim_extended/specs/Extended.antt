@@ -1,4 +1,4 @@
--- The meaning of the extended primitives: the standard ones, and nineteen more.
+-- The meaning of the extended primitives: the standard ones, and twenty-five more.
 use Rattle.std.specs.Prelude.{ℕ, List, if◌then◌else◌, codes}
 use Rattle.std.specs.declared.option.Option.{Option}
 use Rattle.std.specs.Str.{bytes_eq}
@@ -10,6 +10,7 @@ use Rattle.prim_extended.specs.Comparing.{compared_of}
 use Rattle.prim_extended.specs.Constructors.{taken_apart_of, put_together_of}
 use Rattle.prim_extended.specs.Greatest.{greatest_of}
 use Rattle.prim_extended.specs.ListPrimitives.{concatenated_of, counted_of, looked_up_of, placed_of, reversed_of}
+use Rattle.prim_extended.specs.StringPrimitives.{characters_of, found_of, in_lower_case_of, in_upper_case_of, split_of, texts_joined_of}
 use Rattle.prim_extended.specs.TablePrimitives.{got_of, keys_of, put_of, removed_of}
 use Rattle.prim_extended.specs.Remainder.{remainder_of}
 
@@ -35,4 +36,10 @@ extended name arguments =
     if (bytes_eq name (codes "list-concat")) then concatenated_of arguments else
     if (bytes_eq name (codes "list-index")) then placed_of arguments else
     if (bytes_eq name (codes "list-lookup")) then looked_up_of arguments else
+    if (bytes_eq name (codes "string-search")) then found_of arguments else
+    if (bytes_eq name (codes "string-split")) then split_of arguments else
+    if (bytes_eq name (codes "string-join")) then texts_joined_of arguments else
+    if (bytes_eq name (codes "string-characters")) then characters_of arguments else
+    if (bytes_eq name (codes "upper-case")) then in_upper_case_of arguments else
+    if (bytes_eq name (codes "lower-case")) then in_lower_case_of arguments else
     standard name arguments

@@ -4,7 +4,7 @@ use Rattle.prim_core.specs.Signature.{Signature}
 use Rattle.prim_core.specs.StandardTable.{standard_signatures}
 use Rattle.prim_extended.specs.declared.operations.ExtendedOperation.{ExtendedOperation}
 use Rattle.prim_extended.specs.declared.operations.ExtendedOperation.TheVariants.{OnTerms, Compare, TablePut, TableGet, TableRemove, TableKeys, ListLength, ListReverse, ListConcat, ListIndex, ListLookup}
-use Rattle.prim_extended.specs.declared.operations.TermOperation.TheVariants.{Addi, Subti, Muli, Divi, Gti, Strcat, Strlen, IntToString, StringToInt, ExplodeString, ImplodeString, Gts, Modi, StripAnnos, EqIgnoreAnnos, ExplodeTerm, Mkterm, GreatestNumber}
+use Rattle.prim_extended.specs.declared.operations.TermOperation.TheVariants.{Addi, Subti, Muli, Divi, Gti, Strcat, Strlen, IntToString, StringToInt, ExplodeString, ImplodeString, Gts, Modi, StripAnnos, EqIgnoreAnnos, ExplodeTerm, Mkterm, GreatestNumber, StringSearch, StringSplit, StringJoin, StringCharacters, UpperCase, LowerCase}
 
 abbrev signature : List ℕ → ℕ → Signature
 signature name arity = record { name = name; arity = arity }
@@ -21,7 +21,10 @@ extended_signatures = standard_signatures
     ∷ (signature (codes "table-remove") 2 ∷ (signature (codes "table-keys") 1
     ∷ (signature (codes "list-length") 1 ∷ (signature (codes "list-reverse") 1
     ∷ (signature (codes "list-concat") 1 ∷ (signature (codes "list-index") 2
-    ∷ (signature (codes "list-lookup") 2 ∷ [])))))))))))))))))))
+    ∷ (signature (codes "list-lookup") 2 ∷ (signature (codes "string-search") 2
+    ∷ (signature (codes "string-split") 2 ∷ (signature (codes "string-join") 2
+    ∷ (signature (codes "string-characters") 1
+    ∷ (signature (codes "upper-case") 1 ∷ (signature (codes "lower-case") 1 ∷ [])))))))))))))))))))))))))
 
 -- ---- each as a value
 
@@ -44,6 +47,12 @@ name_of (OnTerms EqIgnoreAnnos) = codes "eq-ignore-annos"
 name_of (OnTerms ExplodeTerm) = codes "explode-term"
 name_of (OnTerms Mkterm) = codes "mkterm"
 name_of (OnTerms GreatestNumber) = codes "greatest-number"
+name_of (OnTerms StringSearch) = codes "string-search"
+name_of (OnTerms StringSplit) = codes "string-split"
+name_of (OnTerms StringJoin) = codes "string-join"
+name_of (OnTerms StringCharacters) = codes "string-characters"
+name_of (OnTerms UpperCase) = codes "upper-case"
+name_of (OnTerms LowerCase) = codes "lower-case"
 name_of Compare = codes "compare"
 name_of TablePut = codes "table-put"
 name_of TableGet = codes "table-get"
@@ -74,6 +83,12 @@ arity_of (OnTerms EqIgnoreAnnos) = 2
 arity_of (OnTerms ExplodeTerm) = 1
 arity_of (OnTerms Mkterm) = 2
 arity_of (OnTerms GreatestNumber) = 2
+arity_of (OnTerms StringSearch) = 2
+arity_of (OnTerms StringSplit) = 2
+arity_of (OnTerms StringJoin) = 2
+arity_of (OnTerms StringCharacters) = 1
+arity_of (OnTerms UpperCase) = 1
+arity_of (OnTerms LowerCase) = 1
 arity_of Compare = 2
 arity_of TablePut = 3
 arity_of TableGet = 2

@@ -6,5 +6,6 @@ pub mod Greatest
 pub mod Comparing
 pub mod TablePrimitives
 pub mod ListPrimitives
+pub mod StringPrimitives
 pub mod Extended
 pub mod ExtendedTable

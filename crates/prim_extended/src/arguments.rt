@@ -16,13 +16,20 @@ pub fn byte(term: &Term) -> Option<u8>
     u8::try_from(value).ok()
 }
 
+/// The elements, if the term is a list.
+pub fn list(term: &Term) -> Option<&[Term]>
+    ensures { option_copied result ≡ list_value term.now }
+{
+    match term.kind() {
+        Kind::List => Some(term.children()),
+        _ => None,
+    }
+}
+
 /// The elements of the only argument, if it is a list.
 pub fn one_list(arguments: &[Term]) -> Option<&[Term]>
     requires { length arguments.now ≡ 1 }
     ensures { option_copied result ≡ one list_value arguments.now }
 {
-    match arguments[0].kind() {
-        Kind::List => Some(arguments[0].children()),
-        _ => None,
-    }
+    list(&arguments[0])
 }

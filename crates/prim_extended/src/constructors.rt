@@ -7,8 +7,7 @@ ghost use Rattle.prim_extended.specs.Extended.{extended};
 ghost use Rattle.prim_extended.specs.Bytes.{string_in_range};
 ghost use Rattle.term_core.specs.Tree.{application, branch, none, of_list};
 
-use crate::strings::string;
-use prim_core::MAX_STRING;
+use crate::strings::{string, string_if_short};
 use std::alloc::Global;
 use term_core::{Kind, Name, NoMemory, Term};
 
@@ -46,10 +45,7 @@ fn name_string(alloc: Global, name: &Name) -> Result<Option<Term>, NoMemory>
     ensures { IfOk result (λ found. found ≡ string_in_range (name_text name.now)) }
 {
     let text = text_of(alloc, name)?;
-    if text.len() > MAX_STRING {
-        return Ok(None);
-    }
-    Ok(Some(string(alloc, &text)?))
+    string_if_short(alloc, &text)
 }
 
 fn text_of(alloc: Global, name: &Name) -> Result<Vec<u8>, NoMemory>

@@ -1,6 +1,7 @@
-//! The standard primitives and nineteen more: strings as lists of bytes, the order of strings,
+//! The standard primitives and twenty-five more: strings as lists of bytes, the order of strings,
 //! remainders, terms without annotations, equality but for these, terms as constructors with
-//! children, the greatest number after a beginning of strings, the order on terms, tables, and lists.
+//! children, the greatest number after a beginning of strings, the order on terms, tables, lists,
+//! and searches in strings, their parts, characters and letters.
 #![tactic(auto)]
 
 pub mod annotations;
@@ -14,6 +15,7 @@ pub mod lists;
 pub mod operations;
 pub mod strings;
 pub mod tables;
+pub mod texts;
 
 pub use annotations::{eq_ignore_annos, strip_annos};
 pub use comparing::compare;
@@ -24,3 +26,6 @@ pub use lists::{list_concat, list_index, list_length, list_lookup, list_reverse}
 pub use operations::{Extended, ExtendedOperation, TermOperation, extended_primitives};
 pub use strings::{explode_string, gts, implode_string};
 pub use tables::{table_get, table_keys, table_put, table_remove};
+pub use texts::{
+    lower_case, string_characters, string_join, string_search, string_split, upper_case,
+};

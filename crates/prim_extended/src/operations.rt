@@ -13,6 +13,9 @@ use crate::integers::modi;
 use crate::lists::{list_concat, list_index, list_length, list_lookup, list_reverse};
 use crate::strings::{explode_string, gts, implode_string};
 use crate::tables::{table_get, table_keys, table_put, table_remove};
+use crate::texts::{
+    lower_case, string_characters, string_join, string_search, string_split, upper_case,
+};
 use prim_core::{
     Meaning, Operation, Primitive, addi, as_value, divi, gti, int_to_string, muli, own_terms,
     strcat, string_to_int, strlen, subti,
@@ -59,6 +62,12 @@ pub enum TermOperation {
     ExplodeTerm,
     Mkterm,
     GreatestNumber,
+    StringSearch,
+    StringSplit,
+    StringJoin,
+    StringCharacters,
+    UpperCase,
+    LowerCase,
 }
 
 use ExtendedOperation::{
@@ -67,7 +76,8 @@ use ExtendedOperation::{
 };
 use TermOperation::{
     Addi, Divi, EqIgnoreAnnos, ExplodeString, ExplodeTerm, GreatestNumber, Gti, Gts, ImplodeString,
-    IntToString, Mkterm, Modi, Muli, Strcat, StringToInt, StripAnnos, Strlen, Subti,
+    IntToString, LowerCase, Mkterm, Modi, Muli, Strcat, StringCharacters, StringJoin, StringSearch,
+    StringSplit, StringToInt, StripAnnos, Strlen, Subti, UpperCase,
 };
 
 impl Operation for ExtendedOperation {
@@ -123,6 +133,12 @@ impl TermOperation {
             ExplodeTerm => explode_term(alloc, arguments),
             Mkterm => mkterm(alloc, arguments),
             GreatestNumber => greatest_number(alloc, arguments),
+            StringSearch => Ok(string_search(alloc, arguments)),
+            StringSplit => string_split(alloc, arguments),
+            StringJoin => string_join(alloc, arguments),
+            StringCharacters => string_characters(alloc, arguments),
+            UpperCase => upper_case(alloc, arguments),
+            LowerCase => lower_case(alloc, arguments),
         }
     }
 }
@@ -177,6 +193,18 @@ pub fn extended_primitives(alloc: Global) -> Result<Vec<Primitive<Extended>>, No
     add(alloc, &mut primitives, b"list-concat", 1, ListConcat)?;
     add(alloc, &mut primitives, b"list-index", 2, ListIndex)?;
     add(alloc, &mut primitives, b"list-lookup", 2, ListLookup)?;
+    add_on_terms(alloc, &mut primitives, b"string-search", 2, StringSearch)?;
+    add_on_terms(alloc, &mut primitives, b"string-split", 2, StringSplit)?;
+    add_on_terms(alloc, &mut primitives, b"string-join", 2, StringJoin)?;
+    add_on_terms(
+        alloc,
+        &mut primitives,
+        b"string-characters",
+        1,
+        StringCharacters,
+    )?;
+    add_on_terms(alloc, &mut primitives, b"upper-case", 1, UpperCase)?;
+    add_on_terms(alloc, &mut primitives, b"lower-case", 1, LowerCase)?;
     Ok(primitives)
 }
 

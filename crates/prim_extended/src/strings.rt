@@ -3,7 +3,7 @@
 ghost use Rattle.std.specs.Prelude.{◌≡◌, length, map, IfOk, codes};
 ghost use Rattle.std.specs.Option.{option_map};
 ghost use Rattle.prim_core.specs.Values.{string_term};
-ghost use Rattle.prim_extended.specs.Bytes.{byte_term, byte_value, each};
+ghost use Rattle.prim_extended.specs.Bytes.{byte_term, byte_value, each, string_in_range};
 ghost use Rattle.prim_extended.specs.Extended.{extended};
 
 use crate::arguments::{byte, one_list};
@@ -18,6 +18,16 @@ pub(crate) fn string(alloc: Global, bytes: &[u8]) -> Result<Term, NoMemory>
 {
     let name = Name::quoted(alloc, bytes)?;
     Ok(Term::application(alloc, name, Vec::new(alloc)))
+}
+
+/// The string with these bytes; nothing if there are more than 65,536.
+pub(crate) fn string_if_short(alloc: Global, bytes: &[u8]) -> Result<Option<Term>, NoMemory>
+    ensures { IfOk result (λ found. found ≡ string_in_range bytes.now) }
+{
+    if bytes.len() > MAX_STRING {
+        return Ok(None);
+    }
+    Ok(Some(string(alloc, bytes)?))
 }
 
 /// `explode-string`: the list of the bytes of the string a, as integers.
