@@ -14,7 +14,8 @@ lists is-list conc at-end concat reverse length last elem fetch fetch-elem looku
 lists remove-all zip unzip take drop merge-sort merge-runs merge-neighbours merge nub union isect
 lists diff foldr foldl
 names explode-string implode-string conc-strings concat-strings string-length string-gt string-lt
-names without-prefix skip to-upper to-lower upper-case lower-case capitalize-string newname
+names string-search string-split string-join string-replace string-characters
+names without-prefix to-upper to-lower upper-case lower-case capitalize-string newname
 names newnames greatest-number fresh-number fresh-name renaming rename try-rename rename-apart
 numbers add subt mul div mod inc dec gt lt geq leq max min is-int even int-to-string string-to-int
 substitution substitute-free substitute-in substitute-in-scope substitute-by-role is-about
