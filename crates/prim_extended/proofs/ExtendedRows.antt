@@ -169,6 +169,23 @@ no_such_key : extended (codes "list-lookup") (pair (integer_term (pos 1)) (list_
     (list_term (integers (pos 1) (pos 2)) ∷ tuple_term (integer_term (pos 1) ∷ integers (pos 2) (pos 3)) ∷ []))) ≡ None
 no_such_key = refl
 
+in_order : extended (codes "list-sort") (list_term (integer_term (pos 3) ∷ noted (pos 1) ∷ list_term []
+    ∷ integers (pos 1) (pos 3)) ∷ [])
+    ≡ Some
+    (list_term (integer_term (pos 1) ∷ noted (pos 1) ∷ integer_term (pos 3) ∷ integer_term (pos 3) ∷ list_term [] ∷ []))
+in_order = refl
+
+no_order : extended (codes "list-sort") (tuple_term (integers (pos 2) (pos 1)) ∷ []) ≡ None
+no_order = refl
+
+left_over : extended (codes "list-without") (pair (list_term (integer_term (pos 3) ∷ noted (pos 1)
+    ∷ integers (pos 2) (pos 3))) (list_term (integers (pos 2) (pos 1))))
+    ≡ Some (list_term (integer_term (pos 3) ∷ noted (pos 1) ∷ integer_term (pos 3) ∷ []))
+left_over = refl
+
+without_no_list : extended (codes "list-without") (pair (list_term []) (integer_term (pos 1))) ≡ None
+without_no_list = refl
+
 -- ---- strings
 
 searched : extended (codes "string-search") (strings (codes "abab") (codes "ba")) ≡ Some (integer_term (pos 1))

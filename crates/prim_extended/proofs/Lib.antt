@@ -6,3 +6,4 @@ pub mod ConstructorLemmas
 pub mod GreatestLemmas
 pub mod ListLemmas
 pub mod StringLemmas
+pub mod SortLemmas

@@ -1,4 +1,4 @@
--- The meaning of the extended primitives: the standard ones, and twenty-five more.
+-- The meaning of the extended primitives: the standard ones, and twenty-seven more.
 use Rattle.std.specs.Prelude.{ℕ, List, if◌then◌else◌, codes}
 use Rattle.std.specs.declared.option.Option.{Option}
 use Rattle.std.specs.Str.{bytes_eq}
@@ -9,7 +9,7 @@ use Rattle.prim_extended.specs.Bytes.{exploded_of, imploded_of, later_of}
 use Rattle.prim_extended.specs.Comparing.{compared_of}
 use Rattle.prim_extended.specs.Constructors.{taken_apart_of, put_together_of}
 use Rattle.prim_extended.specs.Greatest.{greatest_of}
-use Rattle.prim_extended.specs.ListPrimitives.{concatenated_of, counted_of, looked_up_of, placed_of, reversed_of}
+use Rattle.prim_extended.specs.ListPrimitives.{concatenated_of, counted_of, left_of, looked_up_of, placed_of, reversed_of, sorted_of}
 use Rattle.prim_extended.specs.StringPrimitives.{characters_of, found_of, in_lower_case_of, in_upper_case_of, split_of, texts_joined_of}
 use Rattle.prim_extended.specs.TablePrimitives.{got_of, keys_of, put_of, removed_of}
 use Rattle.prim_extended.specs.Remainder.{remainder_of}
@@ -33,7 +33,9 @@ extended name arguments =
     if (bytes_eq name (codes "table-keys")) then keys_of arguments else
     if (bytes_eq name (codes "list-length")) then counted_of arguments else
     if (bytes_eq name (codes "list-reverse")) then reversed_of arguments else
+    if (bytes_eq name (codes "list-sort")) then sorted_of arguments else
     if (bytes_eq name (codes "list-concat")) then concatenated_of arguments else
+    if (bytes_eq name (codes "list-without")) then left_of arguments else
     if (bytes_eq name (codes "list-index")) then placed_of arguments else
     if (bytes_eq name (codes "list-lookup")) then looked_up_of arguments else
     if (bytes_eq name (codes "string-search")) then found_of arguments else

@@ -3,7 +3,7 @@ use Rattle.std.specs.Prelude.{ℕ, List, [], ◌∷◌, ◌++◌, codes}
 use Rattle.prim_core.specs.Signature.{Signature}
 use Rattle.prim_core.specs.StandardTable.{standard_signatures}
 use Rattle.prim_extended.specs.declared.operations.ExtendedOperation.{ExtendedOperation}
-use Rattle.prim_extended.specs.declared.operations.ExtendedOperation.TheVariants.{OnTerms, Compare, TablePut, TableGet, TableRemove, TableKeys, ListLength, ListReverse, ListConcat, ListIndex, ListLookup}
+use Rattle.prim_extended.specs.declared.operations.ExtendedOperation.TheVariants.{OnTerms, Compare, TablePut, TableGet, TableRemove, TableKeys, ListLength, ListReverse, ListSort, ListWithout, ListConcat, ListIndex, ListLookup}
 use Rattle.prim_extended.specs.declared.operations.TermOperation.TheVariants.{Addi, Subti, Muli, Divi, Gti, Strcat, Strlen, IntToString, StringToInt, ExplodeString, ImplodeString, Gts, Modi, StripAnnos, EqIgnoreAnnos, ExplodeTerm, Mkterm, GreatestNumber, StringSearch, StringSplit, StringJoin, StringCharacters, UpperCase, LowerCase}
 
 abbrev signature : List ℕ → ℕ → Signature
@@ -20,11 +20,13 @@ extended_signatures = standard_signatures
     ∷ (signature (codes "table-put") 3 ∷ (signature (codes "table-get") 2
     ∷ (signature (codes "table-remove") 2 ∷ (signature (codes "table-keys") 1
     ∷ (signature (codes "list-length") 1 ∷ (signature (codes "list-reverse") 1
-    ∷ (signature (codes "list-concat") 1 ∷ (signature (codes "list-index") 2
+    ∷ (signature (codes "list-sort") 1
+    ∷ (signature (codes "list-concat") 1 ∷ (signature (codes "list-without") 2
+    ∷ (signature (codes "list-index") 2
     ∷ (signature (codes "list-lookup") 2 ∷ (signature (codes "string-search") 2
     ∷ (signature (codes "string-split") 2 ∷ (signature (codes "string-join") 2
     ∷ (signature (codes "string-characters") 1
-    ∷ (signature (codes "upper-case") 1 ∷ (signature (codes "lower-case") 1 ∷ [])))))))))))))))))))))))))
+    ∷ (signature (codes "upper-case") 1 ∷ (signature (codes "lower-case") 1 ∷ [])))))))))))))))))))))))))))
 
 -- ---- each as a value
 
@@ -60,6 +62,8 @@ name_of TableRemove = codes "table-remove"
 name_of TableKeys = codes "table-keys"
 name_of ListLength = codes "list-length"
 name_of ListReverse = codes "list-reverse"
+name_of ListSort = codes "list-sort"
+name_of ListWithout = codes "list-without"
 name_of ListConcat = codes "list-concat"
 name_of ListIndex = codes "list-index"
 name_of ListLookup = codes "list-lookup"
@@ -96,6 +100,8 @@ arity_of TableRemove = 2
 arity_of TableKeys = 1
 arity_of ListLength = 1
 arity_of ListReverse = 1
+arity_of ListSort = 1
+arity_of ListWithout = 2
 arity_of ListConcat = 1
 arity_of ListIndex = 2
 arity_of ListLookup = 2

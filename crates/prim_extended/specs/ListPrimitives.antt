@@ -1,11 +1,13 @@
 -- The primitives on lists. They give nothing if an argument is of another kind. Elements keep their
 -- annotations, which count where they are compared.
-use Rattle.std.specs.Prelude.{pos, List, [], ◌∷◌, length, reverse, Some, None, option_and_then}
+use Rattle.std.specs.Prelude.{pos, List, [], ◌∷◌, length, reverse, Some, None, if◌then◌else◌, not, option_and_then}
 use Rattle.std.specs.declared.option.Option.{Option}
-use Rattle.std.specs.List.{filter_map, find, flat_map, position_from}
+use Rattle.std.specs.List.{filter, filter_map, find, flat_map, list_any, position_from}
 use Rattle.std.specs.Option.{option_map}
+use Rattle.std.specs.Ordering.{is_lt}
 use Rattle.term_core.specs.Tree.{tuple, Tree, branch, none, more, list_term}
 use Rattle.strategy_meaning.specs.Same.{same_tree}
+use Rattle.term_order.specs.Order.{compared}
 use Rattle.prim_core.specs.Values.{integer_in_range, one}
 use Rattle.prim_extended.specs.Bytes.{list_value, each}
 
@@ -25,6 +27,28 @@ joined ts = option_map (flat_map (λ us. us)) (each list_value ts)
 abbrev pub concatenated_of : List Tree → Option Tree
 concatenated_of arguments =
     option_map list_term (option_and_then joined (one list_value arguments))
+
+-- a term before the first element that doesn't come before it in the order on terms
+abbrev pub inserted : Tree → List Tree → List Tree
+inserted t [] = t ∷ []
+inserted t (u ∷ us) = if is_lt (compared u t) then u ∷ inserted t us else t ∷ u ∷ us
+
+-- the elements in the order on terms
+abbrev pub sorted : List Tree → List Tree
+sorted [] = []
+sorted (t ∷ ts) = inserted t (sorted ts)
+
+abbrev pub sorted_of : List Tree → Option Tree
+sorted_of arguments = option_map (λ ts. list_term (sorted ts)) (one list_value arguments)
+
+-- the elements that are equal to none of another list
+abbrev pub without : List Tree → List Tree → List Tree
+without ts us = filter (λ t. not (list_any (same_tree t) us)) ts
+
+abbrev pub left_of : List Tree → Option Tree
+left_of (a ∷ b ∷ []) =
+    option_and_then (λ ts. option_map (λ us. list_term (without ts us)) (list_value b)) (list_value a)
+left_of arguments = None
 
 -- the place of the first element that is equal to a term, counted from 0
 abbrev pub placed_of : List Tree → Option Tree

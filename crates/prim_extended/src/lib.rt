@@ -1,4 +1,4 @@
-//! The standard primitives and twenty-five more: strings as lists of bytes, the order of strings,
+//! The standard primitives and twenty-seven more: strings as lists of bytes, the order of strings,
 //! remainders, terms without annotations, equality but for these, terms as constructors with
 //! children, the greatest number after a beginning of strings, the order on terms, tables, lists,
 //! and searches in strings, their parts, characters and letters.
@@ -22,7 +22,9 @@ pub use comparing::compare;
 pub use constructors::{explode_term, mkterm};
 pub use greatest::greatest_number;
 pub use integers::modi;
-pub use lists::{list_concat, list_index, list_length, list_lookup, list_reverse};
+pub use lists::{
+    list_concat, list_index, list_length, list_lookup, list_reverse, list_sort, list_without,
+};
 pub use operations::{Extended, ExtendedOperation, TermOperation, extended_primitives};
 pub use strings::{explode_string, gts, implode_string};
 pub use tables::{table_get, table_keys, table_put, table_remove};

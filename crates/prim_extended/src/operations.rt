@@ -10,7 +10,9 @@ use crate::comparing::compare;
 use crate::constructors::{explode_term, mkterm};
 use crate::greatest::greatest_number;
 use crate::integers::modi;
-use crate::lists::{list_concat, list_index, list_length, list_lookup, list_reverse};
+use crate::lists::{
+    list_concat, list_index, list_length, list_lookup, list_reverse, list_sort, list_without,
+};
 use crate::strings::{explode_string, gts, implode_string};
 use crate::tables::{table_get, table_keys, table_put, table_remove};
 use crate::texts::{
@@ -36,6 +38,8 @@ pub enum ExtendedOperation {
     TableKeys,
     ListLength,
     ListReverse,
+    ListSort,
+    ListWithout,
     ListConcat,
     ListIndex,
     ListLookup,
@@ -71,8 +75,8 @@ pub enum TermOperation {
 }
 
 use ExtendedOperation::{
-    Compare, ListConcat, ListIndex, ListLength, ListLookup, ListReverse, OnTerms, TableGet,
-    TableKeys, TablePut, TableRemove,
+    Compare, ListConcat, ListIndex, ListLength, ListLookup, ListReverse, ListSort, ListWithout,
+    OnTerms, TableGet, TableKeys, TablePut, TableRemove,
 };
 use TermOperation::{
     Addi, Divi, EqIgnoreAnnos, ExplodeString, ExplodeTerm, GreatestNumber, Gti, Gts, ImplodeString,
@@ -102,6 +106,8 @@ impl Operation for ExtendedOperation {
             TableKeys => table_keys(alloc, arguments),
             ListLength => Ok(list_length(arguments)),
             ListReverse => list_reverse(alloc, arguments),
+            ListSort => list_sort(alloc, arguments),
+            ListWithout => list_without(alloc, arguments),
             ListConcat => list_concat(alloc, arguments),
             ListIndex => Ok(list_index(arguments)),
             ListLookup => list_lookup(arguments),
@@ -190,7 +196,9 @@ pub fn extended_primitives(alloc: Global) -> Result<Vec<Primitive<Extended>>, No
     add(alloc, &mut primitives, b"table-keys", 1, TableKeys)?;
     add(alloc, &mut primitives, b"list-length", 1, ListLength)?;
     add(alloc, &mut primitives, b"list-reverse", 1, ListReverse)?;
+    add(alloc, &mut primitives, b"list-sort", 1, ListSort)?;
     add(alloc, &mut primitives, b"list-concat", 1, ListConcat)?;
+    add(alloc, &mut primitives, b"list-without", 2, ListWithout)?;
     add(alloc, &mut primitives, b"list-index", 2, ListIndex)?;
     add(alloc, &mut primitives, b"list-lookup", 2, ListLookup)?;
     add_on_terms(alloc, &mut primitives, b"string-search", 2, StringSearch)?;
