@@ -12,7 +12,7 @@ free-variables free-variables is-closed bound-here add-free add-free-of-each add
 free-variables with-roles names-bound
 lists is-list conc at-end concat reverse length last elem fetch fetch-elem lookup filter
 lists remove-all zip unzip take drop merge-sort merge-runs merge-neighbours merge nub union isect
-lists diff foldr foldl
+lists diff foldr foldl list-sort
 names explode-string implode-string conc-strings concat-strings string-length string-gt string-lt
 names string-search string-split string-join string-replace string-characters
 names without-prefix to-upper to-lower upper-case lower-case capitalize-string newname
