@@ -52,6 +52,7 @@ STRATEGIES = {
     "`filter`, half of them": ("filter(even)", lambda n: listed(numbers(n))),
     "`merge-sort(gt)`": ("merge-sort(gt)", lambda n: listed(shuffled(n))),
     "`merge-sort(term-gt)`": ("merge-sort(term-gt)", lambda n: listed(shuffled(n))),
+    "`list-sort`": ("list-sort", lambda n: listed(shuffled(n))),
     "`nub`, all different": ("nub", lambda n: listed(numbers(n))),
     "`union`, half in both": ("union", lambda n: halves(n // 2, n // 4)),
     "`diff`, half in both": ("diff", lambda n: halves(n // 2, n // 4)),
